@@ -12,7 +12,7 @@ pub record IsMatchingOff (g : Graph) (met : List ℕ) (m : MatchingValue) : Type
   pub matching : IsMatching g (mem met) (mem (edges_of m))
 
 -- m is a perfect matching of g - met
-pub record IsPerfectOff (g : Graph) (met : List ℕ) (m : MatchingValue) : Type 0 where
+pub record IsPerfectOffMet (g : Graph) (met : List ℕ) (m : MatchingValue) : Type 0 where
   pub of : IsOf g m
   pub perfect : IsPerfect g (mem met) (mem (edges_of m))
 

@@ -5,7 +5,7 @@ ghost use Rattle.std.specs.Prelude.{◌≡◌, ◌<◌, ◌≤◌, ℕ, false, l
 ghost use Rattle.counting.specs.Common.{Within, mem};
 ghost use Rattle.graph_core.specs.Common.{size};
 ghost use Rattle.match_core.specs.Common.{ends_at};
-ghost use Rattle.allowed_edges.specs.Leaving.{IsMatchingOff, IsPerfectOff};
+ghost use Rattle.allowed_edges.specs.Leaving.{IsMatchingOff, IsPerfectOffMet};
 
 use crate::questions::misses_none;
 use graph_core::MultiGraph;
@@ -23,7 +23,7 @@ pub fn completed(
     m: &Matching,
 ) -> Result<Option<Matching>, Memory>
     requires { IsMatchingOff g.now met m.now }
-    ensures { IfOk result (λ o. (n : _) → o ≡ Some n → IsPerfectOff g.now met n) }
+    ensures { IfOk result (λ o. (n : _) → o ≡ Some n → IsPerfectOffMet g.now met n) }
 {
     g.keeps_limits();
     let missed = VSet::full(g.order()).minus(met).minus(met_vertices(m));
@@ -51,7 +51,7 @@ fn with_one(
 ) -> Result<Option<Matching>, Memory>
     requires matching { IsMatchingOff g.now met m.now }
     requires edge { Within (size g.now) k }
-    ensures { IfOk result (λ o. (n : _) → o ≡ Some n → IsPerfectOff g.now met n) }
+    ensures { IfOk result (λ o. (n : _) → o ≡ Some n → IsPerfectOffMet g.now met n) }
 {
     match with_edge(alloc, g, met, m, k)? {
         Some(found) => {
@@ -77,7 +77,7 @@ fn with_two(
     requires first { Within MOST_VERTICES x }
     requires second { Within MOST_VERTICES y }
     requires matching { IsMatchingOff g.now met m.now }
-    ensures { IfOk result (λ o. (n : _) → o ≡ Some n → IsPerfectOff g.now met n) }
+    ensures { IfOk result (λ o. (n : _) → o ≡ Some n → IsPerfectOffMet g.now met n) }
 {
     g.keeps_limits();
     m.keeps_matching();
@@ -111,7 +111,7 @@ fn in_place_of(
     requires b { Within MOST_VERTICES row.b }
     requires first { Within (size g.now) first }
     requires second { Within (size g.now) second }
-    ensures { IfOk result (λ o. (n : _) → o ≡ Some n → IsPerfectOff g.now met n) }
+    ensures { IfOk result (λ o. (n : _) → o ≡ Some n → IsPerfectOffMet g.now met n) }
 {
     let opened = m.cleared(alloc, met.with(row.a).with(row.b))?;
     match with_edge(alloc, g, met, &opened, first)? {

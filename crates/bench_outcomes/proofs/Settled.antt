@@ -9,7 +9,7 @@ use Rattle.tree_check.specs.Common.{Why, IsRefused, IsStuckAt, IsRefusedMoveAt}
 use Rattle.tree_check.proofs.FirstRefusals.{refused-not_derived}
 use Rattle.ear_core.proofs.Refusing.{refusal-none}
 use Rattle.graph_text.specs.Common.{NamedGraph}
-use Rattle.bench_outcomes.specs.Common.{Refuses, RefusesPair, DecomposeGives, ResultOf, TaskMayRefuse, Succeeds}
+use Rattle.bench_outcomes.specs.Common.{RefusesTree, RefusesPair, DecomposeGives, ResultOf, TaskMayRefuse, Succeeds}
 use Rattle.bench_tasks.specs.Common.{Task}
 use Rattle.bench_tasks.specs.Tasks as task
 use Rattle.bench_tasks.specs.declared.verbs.GraphVerb.TheVariants.{Analyse, Convert, Decompose, Ears}
@@ -72,11 +72,11 @@ without-graph (inl done) = inl done
 without-graph (inr refused) = inr (refused.0, (tt, λ keeps fact. refused.1 fact))
 
 -- a tree that is refused
-refused-status : (g : Graph) (t : Shape) (place : ℕ) (status : Status) (output : List ℕ) → Refuses g t place status output → status ≡ Negative
+refused-status : (g : Graph) (t : Shape) (place : ℕ) (status : Status) (output : List ℕ) → RefusesTree g t place status output → status ≡ Negative
 refused-status g t place status output (inl refused) = refused.negative
 refused-status g t place status output (inr not_covered) = not_covered.negative
 
-pub refused-tree : (g : Graph) → IsGraph g → (t : Shape) (place : ℕ) (status : Status) (output : List ℕ) → Refuses g t place status output → IsDerivation g t → ⊥
+pub refused-tree : (g : Graph) → IsGraph g → (t : Shape) (place : ℕ) (status : Status) (output : List ℕ) → RefusesTree g t place status output → IsDerivation g t → ⊥
 refused-tree g is t place status output (inl refused) = λ derived. refused-not_derived g is t refused.node refused.why derived refused.refused
 refused-tree g is t place status output (inr not_covered) = λ derived. not_covered.uncovered derived.covered
 

@@ -42,14 +42,14 @@ pub record RefusedTree (g : Graph) (t : Shape) (place : ℕ) (status : Status) (
   pub text : output ≡ judgement_text (line.Refused place node (why_number why) (shown_of why))
 
 -- the graph is not covered, or the tree at this place is refused
-abbrev pub Refuses : Graph → Shape → ℕ → Status → List ℕ → Type 0
-Refuses g t place status output = RefusedTree g t place status output ⊎ Uncovered g status output
+abbrev pub RefusesTree : Graph → Shape → ℕ → Status → List ℕ → Type 0
+RefusesTree g t place status output = RefusedTree g t place status output ⊎ Uncovered g status output
 
 -- there is a report that refuses the tree at this place, or none, and the tree is a derivation
 abbrev pub RefusesIfAny : Graph → Shape → ℕ → Option Report → Type 0
 RefusesIfAny g t place None = IsDerivation g t
-RefusesIfAny g t place (Some report) = Refuses g t place report.status report.bytes.items
+RefusesIfAny g t place (Some report) = RefusesTree g t place report.status report.bytes.items
 
 -- the result of `check`
 abbrev pub CheckGives : Graph → Shape → Status → List ℕ → Type 0
-CheckGives g t status output = AcceptedTree g t status output ⊎ Refuses g t 1 status output
+CheckGives g t status output = AcceptedTree g t status output ⊎ RefusesTree g t 1 status output

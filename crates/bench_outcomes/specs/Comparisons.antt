@@ -30,10 +30,10 @@ abbrev pub line_of : (number : ℕ) → List (List ℕ) → PlainLeafMap → Map
 line_of number p m = record { leaf = number; partner = m.to; names = names_of p; images = m.images }
 
 -- the lines of leaves, each with its map, after so many others
-abbrev pub lines_of : (before : ℕ) → List (List (List ℕ)) → List PlainLeafMap → List MapLine
-lines_of before [] maps = []
-lines_of before (p ∷ ps) [] = []
-lines_of before (p ∷ ps) (m ∷ maps) = line_of (suc before) p m ∷ lines_of (suc before) ps maps
+abbrev pub map_lines_of : (before : ℕ) → List (List (List ℕ)) → List PlainLeafMap → List MapLine
+map_lines_of before [] maps = []
+map_lines_of before (p ∷ ps) [] = []
+map_lines_of before (p ∷ ps) (m ∷ maps) = line_of (suc before) p m ∷ map_lines_of (suc before) ps maps
 
 -- both trees are derivations: the output is a script from the first to the second, and the maps
 -- of this script, which pair the leaves
@@ -44,7 +44,7 @@ pub record Compared (g : Graph) (s t : Shape) (status : Status) (output : List �
   pub of_moves : maps ≡ script_maps g.order s moves
   pub paired : IsPairing g (leaves g.order s) (leaves g.order t) maps
   pub done : status ≡ Done
-  pub text : output ≡ pairing_text moves (lines_of 0 (leaves g.order s) maps)
+  pub text : output ≡ pairing_text moves (map_lines_of 0 (leaves g.order s) maps)
 
 -- both trees are derivations: the output is the text of a script from the first to the second,
 -- and then the numbers of leaves and of moves as a comment; as a text of moves it stands for this

@@ -27,8 +27,8 @@ abbrev pub double_count : List PlainStep → ℕ
 double_count steps = count_by (λ step. not (is_single step)) steps
 
 -- the numbers of the reasons
-abbrev pub why_number : PlainWhy → ℕ
-why_number why = step_number (ear_fault_of why)
+abbrev pub ear_why_number : PlainWhy → ℕ
+ear_why_number why = step_number (ear_fault_of why)
 
 -- the edge that a reason names, if it names one
 abbrev pub named_edge : PlainWhy → Option ℕ
@@ -48,7 +48,7 @@ pub record RefusedEars (g : Graph) (list : PlainEars) (status : Status) (output 
   pub why : PlainWhy
   pub refused : IsRefused g list step why
   pub negative : status ≡ Negative
-  pub text : output ≡ ear_judgement_text (line.Refused step (why_number why) (named_edge why))
+  pub text : output ≡ ear_judgement_text (line.Refused step (ear_why_number why) (named_edge why))
 
 -- what `checkears` gives
 abbrev pub EarCheckGives : Graph → PlainEars → Status → List ℕ → Type 0

@@ -23,7 +23,7 @@ pub record HasMaximum (g : Graph) (edges missed : ℕ) : Type 0 where
 -- candidate, if there is one
 pub record IsStructure (g : Graph) (structure : Structure) : Type 0 where
   pub partition : structure.classes ≡ classes g
-  pub unlike : option_map pair_of structure.unlike ≡ equivalent_pair g
+  pub equivalent : option_map pair_of structure.equivalent ≡ equivalent_pair g
   pub separates : option_map pair_of structure.cutpair ≡ cut_pair g
   pub kind : IsKind g structure.kind
   pub cut : cut_of structure.kind ≡ first_shore (candidates g)

@@ -22,8 +22,8 @@ steps_to merged zero = []
 steps_to merged (suc step) = steps_to merged step ++ ((if merged (suc step) then Merged else Kept) ∷ [])
 
 -- the path from the root to the place
-abbrev pub path_of : NodePlace → List Side
-path_of place = steps_to (mem place.merged) place.depth
+abbrev pub path_to_place : NodePlace → List Side
+path_to_place place = steps_to (mem place.merged) place.depth
 
 -- the tree at the end of a path
 abbrev pub subtree_at : List Side → Shape → Option Shape
@@ -40,15 +40,15 @@ nodes_before (Kept ∷ path) (cut x kept merged) = 1 + nodes_before path kept
 nodes_before (Merged ∷ path) (cut x kept merged) = 1 + node_count kept + nodes_before path merged
 
 -- the shore of the cut at the root; a leaf has none
-abbrev pub shore_of : Shape → Option (List ℕ)
-shore_of leaf = None
-shore_of (cut x kept merged) = Some x
+abbrev pub root_shore : Shape → Option (List ℕ)
+root_shore leaf = None
+root_shore (cut x kept merged) = Some x
 
 -- the place of a node to which this path leads: none if the path has more than 128 steps
 abbrev pub IsPlaceAt : List Side → (node : Shape) → Option NodePlace → Type 0
 IsPlaceAt path node None = 128 < length path
 IsPlaceAt path node (Some place) =
-    (path_of place ≡ path) × ((step : ℕ) → mem place.merged step ≡ true → step ≤ place.depth) × (place.shore ≡ shore_of node)
+    (path_to_place place ≡ path) × ((step : ℕ) → mem place.merged step ≡ true → step ≤ place.depth) × (place.shore ≡ root_shore node)
 
 -- the place of the node with this number in preorder, counted from 1
 pub record IsNodePlace (t : Shape) (number : ℕ) (place : Option NodePlace) : Type 0 where

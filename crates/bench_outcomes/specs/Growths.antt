@@ -16,7 +16,7 @@ use Rattle.bench_outcomes.specs.declared.status.Status.{Status}
 use Rattle.bench_outcomes.specs.declared.status.Status.TheVariants.{Done}
 
 -- the tree is the derivation of the graph that an order picks, and the tally counts its leaves
-pub record IsCounted (picks : List Candidate → ℕ → ℕ → Type 0) (g : Graph) (t : Shape) (tally : Tally) : Type 0 where
+pub record IsCountedTree (picks : List Candidate → ℕ → ℕ → Type 0) (g : Graph) (t : Shape) (tally : Tally) : Type 0 where
   pub derivation : IsDerivation g t
   pub picked : IsPicked picks g t
   pub counts : IsTally g (leaves g.order t) tally
@@ -32,10 +32,10 @@ pub record ArePaired (g : Graph) (s t : Shape) (pairs : ℕ) : Type 0 where
 pub record Grown (seed pieces : ℕ) (status : Status) (output : List ℕ) : Type 0 where
   pub s : Shape
   pub first : Tally
-  pub by_first : IsCounted (NamedPicks First) (grown seed pieces) s first
+  pub by_first : IsCountedTree (NamedPicks First) (grown seed pieces) s first
   pub t : Shape
   pub last : Tally
-  pub by_last : IsCounted (NamedPicks Last) (grown seed pieces) t last
+  pub by_last : IsCountedTree (NamedPicks Last) (grown seed pieces) t last
   pub pairs : ℕ
   pub paired : ArePaired (grown seed pieces) s t pairs
   pub done : status ≡ Done

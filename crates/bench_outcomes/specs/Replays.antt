@@ -8,7 +8,7 @@ use Rattle.tree_core.specs.Common.{IsDerivation, PlainMove, TurnsThrough, Shape}
 use Rattle.tree_check.specs.Common.{Why, why_number, IsStuckAt, IsRefusedMoveAt}
 use Rattle.tree_text.specs.Common.{tree_text}
 use Rattle.report_text.specs.Common.{replayed_text, stuck_text, refused_move_text}
-use Rattle.bench_outcomes.specs.Checks.{Refuses, shown_of}
+use Rattle.bench_outcomes.specs.Checks.{RefusesTree, shown_of}
 use Rattle.bench_outcomes.specs.declared.status.Status.{Status}
 use Rattle.bench_outcomes.specs.declared.status.Status.TheVariants.{Done, Negative}
 
@@ -46,4 +46,4 @@ MovesGive g t moves status output = ReplayedTree g t moves status output ⊎ (St
 
 -- the result of `replay`
 abbrev pub ReplayGives : Graph → Shape → List PlainMove → Status → List ℕ → Type 0
-ReplayGives g t moves status output = MovesGive g t moves status output ⊎ Refuses g t 1 status output
+ReplayGives g t moves status output = MovesGive g t moves status output ⊎ RefusesTree g t 1 status output

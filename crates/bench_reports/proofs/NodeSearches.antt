@@ -7,7 +7,7 @@ use Rattle.tree_core.specs.declared.path.Side.{Side}
 use Rattle.tree_core.specs.declared.path.Side.TheVariants.{Kept, Merged}
 use Rattle.refusals.specs.declared.places.NodePlace.{NodePlace}
 use Rattle.bench_outcomes.specs.Common.{IsPlaceAt, steps_to}
-use Rattle.bench_reports.specs.NodeSearch.{IsFound}
+use Rattle.bench_reports.specs.NodeSearch.{IsFoundPlace}
 use Rattle.bench_reports.specs.declared.node_places.Sought.{Sought}
 use Rattle.bench_reports.specs.declared.node_places.Sought.TheVariants.{Found, Beyond}
 
@@ -47,15 +47,15 @@ steps-merged merged more depth path less are is =
     (steps-merged_suc merged more depth path less are (λ step. is step ∙ ap (λ (d : ℕ). merged step || d == step) (sym next)))
 
 -- the root is found
-pub found-here : (path : List Side) (t : Shape) (number : ℕ) (place : Option NodePlace) → number ≡ 1 → IsPlaceAt path t place → IsFound path t number (Found place)
+pub found-here : (path : List Side) (t : Shape) (number : ℕ) (place : Option NodePlace) → number ≡ 1 → IsPlaceAt path t place → IsFoundPlace path t number (Found place)
 found-here path t number place is at = grind (arith, append-nil path)
 
 -- what is found in a tree below a cut
-pub found-kept : (path : List Side) (x : List ℕ) (kept merged : Shape) (number before : ℕ) (place : Option NodePlace) → number ≡ suc before → IsFound (path ++ (Kept ∷ [])) kept before (Found place) →
-    IsFound path (cut x kept merged) number (Found place)
+pub found-kept : (path : List Side) (x : List ℕ) (kept merged : Shape) (number before : ℕ) (place : Option NodePlace) → number ≡ suc before → IsFoundPlace (path ++ (Kept ∷ [])) kept before (Found place) →
+    IsFoundPlace path (cut x kept merged) number (Found place)
 found-kept path x kept merged number before place is found = grind (arith, append_assoc path (Kept ∷ []))
 
 pub found-merged : (path : List Side) (x : List ℕ) (kept merged : Shape) (number before left : ℕ) (sought : Sought) → number ≡ suc before → before ≡ node_count kept + left →
-    IsFound (path ++ (Merged ∷ [])) merged left sought → IsFound path (cut x kept merged) number sought
+    IsFoundPlace (path ++ (Merged ∷ [])) merged left sought → IsFoundPlace path (cut x kept merged) number sought
 found-merged path x kept merged number before left (Found place) is past found = grind (arith, append_assoc path (Merged ∷ []))
 found-merged path x kept merged number before left (Beyond rest) is past found = tt

@@ -10,16 +10,16 @@ use Rattle.bench_reports.specs.declared.node_places.Sought.TheVariants.{Found, B
 use Rattle.bench_reports.specs.declared.node_places.Steps.{Steps}
 
 -- the steps of the path: none are kept if it has more than 128
-abbrev pub AreSteps : Option Steps → List Side → Type 0
-AreSteps None path = 128 < length path
-AreSteps (Some steps) path =
+abbrev pub AreKeptSteps : Option Steps → List Side → Type 0
+AreKeptSteps None path = 128 < length path
+AreKeptSteps (Some steps) path =
     (steps_to (mem steps.merged) steps.depth ≡ path) × (steps.depth ≤ 128) × ((step : ℕ) → mem steps.merged step ≡ true → step ≤ steps.depth)
 
 -- if the node with this number is in the tree at the end of the path, it has this place
-abbrev pub IsFound : List Side → Shape → ℕ → Sought → Type 0
-IsFound path t number (Found place) =
+abbrev pub IsFoundPlace : List Side → Shape → ℕ → Sought → Type 0
+IsFoundPlace path t number (Found place) =
     (rest : List Side) × (node : Shape) × (subtree_at rest t ≡ Some node) × (number ≡ 1 + nodes_before rest t) × IsPlaceAt (path ++ rest) node place
-IsFound path t number (Beyond left) = Unit {0}
+IsFoundPlace path t number (Beyond left) = Unit {0}
 
 -- if it comes after the tree, this number is left
 abbrev pub IsPassed : Shape → ℕ → Sought → Type 0

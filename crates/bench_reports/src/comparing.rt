@@ -2,7 +2,7 @@
 ghost use Rattle.std.specs.Prelude.{◌≡◌, ◌≤◌, ◌<◌, ◌+◌, ◌^◌, ◌∷◌, [], Err, IfOk, IfSome, length, map};
 ghost use Rattle.tree_core.specs.Common.{IsDerivation, moves_of, Fits, leaf_count, shape_of};
 ghost use Rattle.uncross.specs.Common.{map_of, maps_of};
-ghost use Rattle.bench_outcomes.specs.Common.{Compared, IsInTrees, IsOfGraph, RefusesPair, RefusesPairIfAny, Scripted, line_of, lines_of};
+ghost use Rattle.bench_outcomes.specs.Common.{Compared, IsInTrees, IsOfGraph, RefusesPair, RefusesPairIfAny, Scripted, line_of, map_lines_of};
 
 use crate::checking::refusal_where_covered;
 use crate::uncovered::uncovered_report;
@@ -84,7 +84,7 @@ fn lines_of(alloc: Global, found: &Partitions, maps: LeafMaps) -> Result<MapLine
     requires one_each { length maps ≡ length found.now }
     requires few { length found.now < 2 ^ 32 }
     ensures { IfOk result
-        (λ lines. lines ≡ lines_of 0 (map (λ p. p.blocks) found.now) (maps_of maps)) }
+        (λ lines. lines ≡ map_lines_of 0 (map (λ p. p.blocks) found.now) (maps_of maps)) }
 {
     let mut lines = MapLines::new(alloc);
     let mut rest = maps.into_items().into_iter();

@@ -2,7 +2,7 @@
 ghost use Rattle.std.specs.Prelude.{◌≡◌, ◌<◌, ◌^◌, length, map, IfOk};
 ghost use Rattle.graph_core.specs.Common.{size};
 ghost use Rattle.ear_core.specs.Common.{FitsEars, IsEarList, IsRefused, ears_of, step_of, why_of};
-ghost use Rattle.bench_outcomes.specs.Common.{AcceptedEars, BuiltEars, EarCheckGives, EarsGives, IsInEars, IsOfGraph, RefusedEars, double_count, ear_fault_of, named_edge, single_count, why_number};
+ghost use Rattle.bench_outcomes.specs.Common.{AcceptedEars, BuiltEars, EarCheckGives, EarsGives, IsInEars, IsOfGraph, RefusedEars, double_count, ear_fault_of, named_edge, single_count, ear_why_number};
 
 use crate::uncovered::uncovered_report;
 use bench_outcomes::{Report, Status};
@@ -16,7 +16,7 @@ use std::alloc::{AllocError as Memory, Global};
 
 // The number of a reason.
 fn number_of(why: EarWhy) -> u32
-    ensures { result ≡ why_number (why_of why) }
+    ensures { result ≡ ear_why_number (why_of why) }
 {
     match why {
         EarWhy::NotPath => 1,

@@ -1,7 +1,7 @@
 //! What a command makes of its inputs.
 ghost use Rattle.std.specs.Prelude.{◌≡◌, IfOk};
 ghost use Rattle.graph_text.specs.Common.{named_graph};
-ghost use Rattle.bench_tasks.specs.Common.{given_trees, graph_in, on_trees, task_of};
+ghost use Rattle.bench_tasks.specs.Common.{given_trees, simple_graph_in, on_trees, task_of};
 ghost use Rattle.bench_tasks.specs.Tasks.{OnGraph};
 ghost use Rattle.bench_outcomes.specs.Common.{HasMaximum, IsAnalysis, Analysed, Converted, Analysed6, IsOfGraph, IsPlaced, IsReported, ResultOf, TaskMayRefuse};
 
@@ -107,7 +107,7 @@ fn convert_report(alloc: Global, named: Named) -> Result<Report, Memory>
 
 // The report of `analyse6`.
 fn analyse6_report(alloc: Global, simple: SimpleGraph) -> Result<Report, Memory>
-    ensures gives { IfOk result (λ report. Analysed6 (graph_in simple) report.status report.bytes.items) }
+    ensures gives { IfOk result (λ report. Analysed6 (simple_graph_in simple) report.status report.bytes.items) }
     ensures placed { IfOk result (λ report. IsOfGraph report.refusal) }
 {
     let SimpleGraph { graph } = simple;

@@ -2,8 +2,8 @@
 ghost use Rattle.std.specs.Prelude.{◌≡◌, ◌<◌, ◌≤◌, ◌++◌, ◌∷◌, [], List};
 ghost use Rattle.tree_core.specs.Common.{node_count, shape_of};
 ghost use Rattle.tree_core.specs.declared.path.Side.{Side};
-ghost use Rattle.bench_outcomes.specs.Common.{IsNodePlace, IsPlaceAt, shore_of};
-ghost use Rattle.bench_reports.specs.NodeSearch.{AreSteps, IsFound, IsPassed};
+ghost use Rattle.bench_outcomes.specs.Common.{IsNodePlace, IsPlaceAt, root_shore};
+ghost use Rattle.bench_reports.specs.NodeSearch.{AreKeptSteps, IsFoundPlace, IsPassed};
 
 use refusals::NodePlace;
 use tree_core::{Side, Tree};
@@ -27,8 +27,8 @@ enum Sought {
 
 // The steps with one more to this side. `None` if there would be more than 128.
 fn below(steps: &Option<Steps>, side: Side) -> Option<Steps>
-    ensures { (path : List Side) → AreSteps steps.now path →
-        AreSteps result (path ++ (side ∷ [])) }
+    ensures { (path : List Side) → AreKeptSteps steps.now path →
+        AreKeptSteps result (path ++ (side ∷ [])) }
 {
     match steps {
         Some(above) if above.depth < MOST_VERTICES => {
@@ -48,7 +48,7 @@ fn below(steps: &Option<Steps>, side: Side) -> Option<Steps>
 
 // The shore of the cut at the root. `None` if the tree is a leaf.
 fn shore_of(tree: &Tree) -> Option<VSet>
-    ensures { result ≡ shore_of (shape_of tree.now) }
+    ensures { result ≡ root_shore (shape_of tree.now) }
 {
     match tree {
         Tree::Leaf => None,
@@ -58,7 +58,7 @@ fn shore_of(tree: &Tree) -> Option<VSet>
 
 // The place of the root of a tree at the end of the steps.
 fn place_of(steps: &Option<Steps>, tree: &Tree) -> Option<NodePlace>
-    ensures { (path : List Side) → AreSteps steps.now path →
+    ensures { (path : List Side) → AreKeptSteps steps.now path →
         IsPlaceAt path (shape_of tree.now) result }
 {
     match steps {
@@ -74,8 +74,8 @@ fn place_of(steps: &Option<Steps>, tree: &Tree) -> Option<NodePlace>
 // Seeks the node with this number in the tree at the end of the steps.
 fn seek(tree: &Tree, number: u32, steps: &Option<Steps>) -> Sought
     requires { 0 < number }
-    ensures found { (path : List Side) → AreSteps steps.now path →
-        IsFound path (shape_of tree.now) number result }
+    ensures found { (path : List Side) → AreKeptSteps steps.now path →
+        IsFoundPlace path (shape_of tree.now) number result }
     ensures passed { IsPassed (shape_of tree.now) number result }
 {
     if number == 1 {

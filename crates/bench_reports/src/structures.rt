@@ -1,8 +1,8 @@
 //! The structure of a covered graph, as `analyse` reports it.
 ghost use Rattle.std.specs.Prelude.{◌≡◌, IfOk};
 ghost use Rattle.std.specs.Option.{option_map};
-ghost use Rattle.graph_core.specs.Common.{IsVerdict, pair_of};
-ghost use Rattle.separation_kit.specs.Pairs.{pair_of as pair_in};
+ghost use Rattle.graph_core.specs.Common.{IsVerdict, pair_value};
+ghost use Rattle.separation_kit.specs.Pairs.{pair_value as pair_in};
 ghost use Rattle.bench_outcomes.specs.Common.{IsStructure, TellsStructure};
 
 use barrier_kit::classes_of;
@@ -15,7 +15,7 @@ use std::alloc::{AllocError as Memory, Global};
 
 // The two vertices of a pair.
 fn ends_of(pair: Option<Pair>) -> Option<Ends>
-    ensures { option_map pair_of result ≡ option_map pair_in pair }
+    ensures { option_map pair_value result ≡ option_map pair_in pair }
 {
     match pair {
         Some(Pair { a, b }) => Some(Ends { a, b }),
@@ -31,11 +31,11 @@ fn structure(alloc: Global, c: &Covered) -> Result<Structure, Memory>
     let pairs = FirstPairs::with_classes(c, &classes);
     let cut = pairs.any_cut();
     let kind = kind_of(alloc, &pairs)?;
-    let unlike = ends_of(pairs.equivalent());
+    let equivalent = ends_of(pairs.equivalent());
     let cutpair = ends_of(cut);
     Ok(Structure {
         classes,
-        unlike,
+        equivalent,
         cutpair,
         kind,
     })

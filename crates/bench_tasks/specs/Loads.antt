@@ -26,8 +26,8 @@ abbrev pub Held : Type 0
 Held = Loaded Task
 
 -- the graph of a value that is kept simple
-abbrev pub graph_in : SimpleGraph → Graph
-graph_in simple = simple.graph
+abbrev pub simple_graph_in : SimpleGraph → Graph
+simple_graph_in simple = simple.graph
 
 -- a graph with what is given beside it, as they are seen
 abbrev pub given_tree : GivenTree → NamedGraph × Shape
@@ -52,7 +52,7 @@ given_trees given = (named_graph given.named, (shape_of given.first, shape_of gi
 -- the task as it is seen
 abbrev pub task_of : code.the_data → Task
 task_of (code.OnGraph verb named) = task.OnGraph verb (named_graph named)
-task_of (code.OnSimpleGraph verb simple) = task.OnSimpleGraph verb (graph_in simple)
+task_of (code.OnSimpleGraph verb simple) = task.OnSimpleGraph verb (simple_graph_in simple)
 task_of (code.OnTree verb given) = on_tree verb (given_tree given)
 task_of (code.OnPicks verb given) = on_picks verb (given_picks given)
 task_of (code.OnEars verb given) = on_ears verb (given_ears given)

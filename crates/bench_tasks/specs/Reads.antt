@@ -53,8 +53,8 @@ IsReadFault (Err (stop.Bad file line kind)) = ⊥
 IsReadFault (Err stop.Memory) = ⊥
 
 -- no file is missing: all are good, or one is bad
-abbrev pub IsRead : {X : Type 0} → Result X Stop → Type 0
-IsRead (Ok x) = Unit {0}
-IsRead (Err (stop.ReadFault file)) = ⊥
-IsRead (Err (stop.Bad file line kind)) = Unit {0}
-IsRead (Err stop.Memory) = ⊥
+abbrev pub HasNoMissing : {X : Type 0} → Result X Stop → Type 0
+HasNoMissing (Ok x) = Unit {0}
+HasNoMissing (Err (stop.ReadFault file)) = ⊥
+HasNoMissing (Err (stop.Bad file line kind)) = Unit {0}
+HasNoMissing (Err stop.Memory) = ⊥

@@ -10,7 +10,7 @@ ghost use Rattle.tree_text.specs.Common.{pick_format, tree_format};
 ghost use Rattle.move_text.specs.Common.{most_moves, move_format};
 ghost use Rattle.ear_core.specs.Common.{FitsEars, PlainEars, ears_of};
 ghost use Rattle.ear_text.specs.EarFormat.{ear_format};
-ghost use Rattle.bench_tasks.specs.Loads.{graph_in};
+ghost use Rattle.bench_tasks.specs.Loads.{simple_graph_in};
 
 use crate::tasks::SimpleGraph;
 use ear_core::EarList;
@@ -80,7 +80,7 @@ impl FileFormat for Graph6File {
 
     ghost Meaning = { Graph };
 
-    ghost meaning = { graph_in };
+    ghost meaning = { simple_graph_in };
 
     ghost reading = { λ _. outcome_of };
 

@@ -12,7 +12,7 @@ use Rattle.ear_core.specs.Common.{PlainEars}
 use Rattle.ear_core.proofs.Refusing.{refusal-one}
 use Rattle.report_text.specs.Common.{judgement_text, numbered, refused_line, numbers_text, refused_move_text}
 use Rattle.report_text.specs.declared.ear_judgements.EarLine.TheVariants as ear_line
-use Rattle.bench_outcomes.specs.Common.{CheckGives, RefusedTree, Refuses, shown_of, CompareGives, RefusesPair, ScriptGives, EarCheckGives, EarsGives, RefusedEars, MayBeBerge, MayCross, MayCrossBehind, MayShowOfMoves, MayShowOfTree, MayShowOfTwo, DecomposeGives, MovesGive, RefusedMove, ReplayGives, StuckMove}
+use Rattle.bench_outcomes.specs.Common.{CheckGives, RefusedTree, RefusesTree, shown_of, CompareGives, RefusesPair, ScriptGives, EarCheckGives, EarsGives, RefusedEars, MayBeBerge, MayCross, MayCrossBehind, MayShowOfMoves, MayShowOfTree, MayShowOfTwo, DecomposeGives, MovesGive, RefusedMove, ReplayGives, StuckMove}
 use Rattle.bench_outcomes.specs.EarChecks as ears
 use Rattle.bench_top.specs.Fixed.{DifferAtMostIn}
 use Rattle.bench_outcomes.specs.declared.status.Status.TheVariants.{Negative}
@@ -46,7 +46,7 @@ trees-alike g is t place output other one two =
     grind (arith, alike-along (MayCross g t) output other (tells one.node one.why) (tells one.node two.why) one.text, line-alike (MayCross g t) (codes "tree ") place one.node one.why two.why same.1)
 
 -- a tree is refused, or the graph is not covered
-refuses-alike : (g : Graph) → IsGraph g → (t : Shape) (place : ℕ) (output other : List ℕ) → Refuses g t place Negative output → Refuses g t place Negative other →
+refuses-alike : (g : Graph) → IsGraph g → (t : Shape) (place : ℕ) (output other : List ℕ) → RefusesTree g t place Negative output → RefusesTree g t place Negative other →
     DifferAtMostIn (MayShowOfTree g t) output other
 refuses-alike g is t place output other (inl one) (inl two) = alike-wider (MayCross g t) (MayShowOfTree g t) output other (λ numbers may. inr may) (trees-alike g is t place output other one two)
 refuses-alike g is t place output other (inl one) (inr two) = absurd (two.uncovered one.refused.covered)

@@ -11,7 +11,7 @@ use Rattle.tree_check.proofs.ReplayAnswers.{last-once}
 use Rattle.report_text.specs.declared.judgements.TreeLine.TheVariants as line
 use Rattle.tree_core.specs.declared.tallies.Tally.{Tally}
 use Rattle.grow_gen.specs.Common.{grown}
-use Rattle.bench_outcomes.specs.Common.{CheckGives, Refuses, EarCheckGives, MayBeBerge, Grown, IsCounted, Analysed, Analysed6, DecomposeGives, TellsDerivation, ReplayGives, ReplayedTree}
+use Rattle.bench_outcomes.specs.Common.{CheckGives, RefusesTree, EarCheckGives, MayBeBerge, Grown, IsCountedTree, Analysed, Analysed6, DecomposeGives, TellsDerivation, ReplayGives, ReplayedTree}
 use Rattle.bench_top.specs.Fixed.{DifferAtMostIn}
 use Rattle.decomposer.specs.Common.{NamedPicks}
 use Rattle.decomposer.specs.declared.orders.NamedOrder.{NamedOrder}
@@ -33,7 +33,7 @@ decompose-once picks once named output other (inl one) (inr not_covered) = let n
 decompose-once picks once named output other (inr not_covered) two = let no = not_covered.negative in cc no
 
 -- a tree that is refused is not done
-not-done : (g : Graph) (t : Shape) (place : ℕ) (output : List ℕ) → Refuses g t place Done output → ⊥
+not-done : (g : Graph) (t : Shape) (place : ℕ) (output : List ℕ) → RefusesTree g t place Done output → ⊥
 not-done g t place output h = grind arith
 
 pub check-once : (g : Graph) (t : Shape) (output other : List ℕ) → CheckGives g t Done output → CheckGives g t Done other → output ≡ other
@@ -55,7 +55,7 @@ pub replay-once : (g : Graph) (t : Shape) (moves : List PlainMove) (output other
 replay-once g t moves output other one two = replayed-once g t moves output other (replay-tree g t moves output one) (replay-tree g t moves other two)
 
 -- a graph that grew
-grown-tree : (g : Graph) (order : NamedOrder) (s t : Shape) (a b : Tally) → IsCounted (NamedPicks order) g s a → IsCounted (NamedPicks order) g t b → (s ≡ t) × (a ≡ b)
+grown-tree : (g : Graph) (order : NamedOrder) (s t : Shape) (a b : Tally) → IsCountedTree (NamedPicks order) g s a → IsCountedTree (NamedPicks order) g t b → (s ≡ t) × (a ≡ b)
 grown-tree g order s t a b one two =
     let same : s ≡ t = picked-once (NamedPicks order) (named-once order) g (singles g.order) 0 s t one.picked two.picked in
     (same, tally-once g (leaves g.order t) a b (subst (λ (r : Shape). IsTally g (leaves g.order r) a) same one.counts) two.counts)

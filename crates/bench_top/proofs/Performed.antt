@@ -4,7 +4,7 @@ use Rattle.std.proofs.Common.{◌≡◌, ◌∙◌, ◌⊎◌, ◌↔◌, ℕ, L
 use Rattle.std.proofs.lemmas.Option.{none-some, same_Some}
 use Rattle.outside.specs.Common.{Answer, NamedFile, ReadsInTurn, Rose}
 use Rattle.refusals.specs.declared.refusal.Refusal.{Refusal}
-use Rattle.bench_tasks.specs.Common.{Absent, All, Bad, Command, FailsAs, GathersAnswered, Held, IsRead, IsReadFault, IsTaskOf, Loaded, Loads, LoadsAs, ReadsAs, Task, file_names, loaded, names_until, task_of}
+use Rattle.bench_tasks.specs.Common.{Absent, All, Bad, Command, FailsAs, GathersAnswered, Held, HasNoMissing, IsReadFault, IsTaskOf, Loaded, Loads, LoadsAs, ReadsAs, Task, file_names, loaded, names_until, task_of}
 use Rattle.bench_tasks.specs.declared.stop.Stop.{Stop}
 use Rattle.bench_tasks.specs.declared.tasks.Task.TheVariants as code
 use Rattle.bench_outcomes.specs.Common.{Appended, CutShort, GatheredMayRefuse, IsPlaced, IsReported, IsSettled, LoadedGives, is_negative}
@@ -46,7 +46,7 @@ module _ {S K : Type 0} (holds : S → Option (List NamedFile)) (is_steady : S �
     pub usage : status ≡ Usage → ⊥
     pub read_fault : (status ≡ ReadFault) ↔ IsReadFault gathered
     pub whole : IsSettled status → IsOk gathered
-    pub read : HasRead (is_steady first) status → IsRead gathered ⊎ IsReadFault gathered
+    pub read : HasRead (is_steady first) status → HasNoMissing gathered ⊎ IsReadFault gathered
     pub refuses : status ≡ Negative → GatheredMayRefuse gathered
     pub wrote : WritesAs written writes (GivesGathered gathered) status before now
     pub write_fault : status ≡ WriteFault → Rose (sink_faults before) (sink_faults now)
@@ -56,7 +56,7 @@ module _ {S K : Type 0} (holds : S → Option (List NamedFile)) (is_steady : S �
     pub placed : (task : Task) → LoadsAs task_of gathered (All task) → IsPlaced task refused
 
   -- all files were read that were to be, if the run has read all that it reads
-  read-until : (steady : Bool) (status : Status) (held : Held) → HasRead steady status → (status ≡ ReadFault) ↔ IsReadFault gathered → IsRead gathered ⊎ IsReadFault gathered →
+  read-until : (steady : Bool) (status : Status) (held : Held) → HasRead steady status → (status ≡ ReadFault) ↔ IsReadFault gathered → HasNoMissing gathered ⊎ IsReadFault gathered →
       LoadsAs task_of gathered held → FailsAs steady gathered held → ReadsAs reads (file_names k) gathered first last → ReadsInTurn reads (names_until held (file_names k)) first last
   read-until steady status held has fault read loads fails made = grind arith
 

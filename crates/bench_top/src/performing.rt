@@ -1,6 +1,6 @@
 //! A command from its files to its report.
 ghost use Rattle.std.specs.Prelude.{◌≡◌, ◌⊎◌, ◌↔◌, IsErrOf, IsOk, IfOk, IfErr, Some};
-ghost use Rattle.bench_tasks.specs.Common.{All, asked, Held, IsRead, IsReadFault, LoadsAs, Task as HeldTask, task_of};
+ghost use Rattle.bench_tasks.specs.Common.{All, asked, Held, HasNoMissing, IsReadFault, LoadsAs, Task as HeldTask, task_of};
 ghost use Rattle.bench_outcomes.specs.Common.{GatheredMayRefuse, IsPlaced, IsReported, IsSettled, LoadedGives};
 ghost use Rattle.bench_top.specs.Endings.{ReportsBad, stop_in};
 ghost use Rattle.bench_top.specs.Runs.{RunsTo};
@@ -31,7 +31,7 @@ fn report_on(alloc: Global, gathered: Result<Task, Stop>) -> Result<Report, Stat
     ensures reported { IfOk result (λ report. IsReported report.status) }
     ensures refuses { IfOk result
         (λ report. report.status ≡ Status.Negative → GatheredMayRefuse gathered) }
-    ensures read { IfOk result (λ report. IsRead gathered) }
+    ensures read { IfOk result (λ report. HasNoMissing gathered) }
     ensures whole { IfOk result (λ report. IsSettled report.status → IsOk gathered) }
     ensures bad { IfOk result
         (λ report. report.status ≡ Status.BadInput → ReportsBad gathered report.bytes.items) }

@@ -80,5 +80,5 @@ matches row [] = false
 matches row (word ∷ words) = fit row.words row.optional words && bytes_eq word row.command
 
 -- they match one of the rows
-abbrev pub is_listed : List Row → List (List ℕ) → Bool
-is_listed rows words = list_any (λ row. matches row words) rows
+abbrev pub matches_a_row : List Row → List (List ℕ) → Bool
+matches_a_row rows words = list_any (λ row. matches row words) rows

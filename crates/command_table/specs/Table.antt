@@ -29,8 +29,8 @@ abbrev pub usage_line : (form about : List ℕ) → List ℕ
 usage_line form about = codes "  " ++ (form ++ (replicate (29 - length form) 32 ++ (about ++ codes "\n")))
 
 -- the row of a command with these words: its line in the usage is made of them
-abbrev pub row_of : List ℕ → List Word → List Word → (about : List ℕ) → Row
-row_of command words optional about = record {
+abbrev pub row_with : List ℕ → List Word → List Word → (about : List ℕ) → Row
+row_with command words optional about = record {
   command = command;
   words = words;
   optional = optional;
@@ -108,18 +108,18 @@ what = one_of (codes "WHAT") properties counted_properties (codes "WHAT: covered
 -- the table of `mcg`
 unfoldable pub rows : List Row
 rows =
-    row_of (codes "analyse") file [] (codes "the structure of the graph in FILE") ∷
-    row_of (codes "convert") file [] (codes "its canonical text, with names for the vertices") ∷
-    row_of (codes "analyse6") file [] (codes "what analyse reports, for a graph in graph6") ∷
-    row_of (codes "decompose") (File (codes "FILE") (codes "a FILE") ∷ one_of (codes "ORDER") orders [] (codes "an ORDER after FILE: first, last, balanced, or script PICKS") ∷ []) [] (codes "a decomposition by tight cuts into bricks and braces") ∷
-    row_of (codes "decompose") (File (codes "FILE") (codes "a FILE") ∷ Literal (codes "script") ∷ file_after (codes "script") (codes "PICKS") ∷ []) [] (codes "the same, the cuts picked by the numbers in PICKS") ∷
-    row_of (codes "check") (File (codes "FILE") (codes "a FILE") ∷ file_after (codes "FILE") (codes "TREE") ∷ []) [] (codes "whether TREE is a derivation of the graph") ∷
-    row_of (codes "checkears") (File (codes "FILE") (codes "a FILE") ∷ file_after (codes "FILE") (codes "EARS") ∷ []) [] (codes "whether EARS is an ear list of the graph") ∷
-    row_of (codes "ears") file [] (codes "an ear list of the graph") ∷
-    row_of (codes "compare") (File (codes "FILE") (codes "a FILE") ∷ file_after (codes "FILE") (codes "TREE1") ∷ file_after (codes "TREE1") (codes "TREE2") ∷ []) [] (codes "how the leaves of two derivations are paired, with moves") ∷
-    row_of (codes "script") (File (codes "FILE") (codes "a FILE") ∷ file_after (codes "FILE") (codes "TREE1") ∷ file_after (codes "TREE1") (codes "TREE2") ∷ []) [] (codes "these moves as a file") ∷
-    row_of (codes "replay") (File (codes "FILE") (codes "a FILE") ∷ file_after (codes "FILE") (codes "TREE") ∷ file_after (codes "TREE") (codes "MOVES") ∷ []) [] (codes "the derivation that the moves make of TREE") ∷
-    row_of (codes "grow") (number_from (codes "SEED") 0 999_999_999 (codes "a SEED and PIECES") ∷ number_from (codes "PIECES") 1 16 (codes "PIECES after SEED, 1 to 16") ∷ []) [] (codes "a pseudo-random matching covered cubic graph") ∷ []
+    row_with (codes "analyse") file [] (codes "the structure of the graph in FILE") ∷
+    row_with (codes "convert") file [] (codes "its canonical text, with names for the vertices") ∷
+    row_with (codes "analyse6") file [] (codes "what analyse reports, for a graph in graph6") ∷
+    row_with (codes "decompose") (File (codes "FILE") (codes "a FILE") ∷ one_of (codes "ORDER") orders [] (codes "an ORDER after FILE: first, last, balanced, or script PICKS") ∷ []) [] (codes "a decomposition by tight cuts into bricks and braces") ∷
+    row_with (codes "decompose") (File (codes "FILE") (codes "a FILE") ∷ Literal (codes "script") ∷ file_after (codes "script") (codes "PICKS") ∷ []) [] (codes "the same, the cuts picked by the numbers in PICKS") ∷
+    row_with (codes "check") (File (codes "FILE") (codes "a FILE") ∷ file_after (codes "FILE") (codes "TREE") ∷ []) [] (codes "whether TREE is a derivation of the graph") ∷
+    row_with (codes "checkears") (File (codes "FILE") (codes "a FILE") ∷ file_after (codes "FILE") (codes "EARS") ∷ []) [] (codes "whether EARS is an ear list of the graph") ∷
+    row_with (codes "ears") file [] (codes "an ear list of the graph") ∷
+    row_with (codes "compare") (File (codes "FILE") (codes "a FILE") ∷ file_after (codes "FILE") (codes "TREE1") ∷ file_after (codes "TREE1") (codes "TREE2") ∷ []) [] (codes "how the leaves of two derivations are paired, with moves") ∷
+    row_with (codes "script") (File (codes "FILE") (codes "a FILE") ∷ file_after (codes "FILE") (codes "TREE1") ∷ file_after (codes "TREE1") (codes "TREE2") ∷ []) [] (codes "these moves as a file") ∷
+    row_with (codes "replay") (File (codes "FILE") (codes "a FILE") ∷ file_after (codes "FILE") (codes "TREE") ∷ file_after (codes "TREE") (codes "MOVES") ∷ []) [] (codes "the derivation that the moves make of TREE") ∷
+    row_with (codes "grow") (number_from (codes "SEED") 0 999_999_999 (codes "a SEED and PIECES") ∷ number_from (codes "PIECES") 1 16 (codes "PIECES after SEED, 1 to 16") ∷ []) [] (codes "a pseudo-random matching covered cubic graph") ∷ []
 
 -- the words after a query of a list that may have bad lines
 abbrev pub skip_file : List Word
@@ -128,12 +128,12 @@ skip_file = Literal (codes "skip") ∷ file
 -- the table of `mcg6`
 unfoldable pub list_rows : List Row
 list_rows =
-    row_of (codes "kinds") [] skip_file (codes "a line for each graph: its kind, its bricks and its braces") ∷
-    row_of (codes "leaves") [] (one_of (codes "ORDER") orders [] (codes "an ORDER") ∷ skip_file) (codes "a line for each leaf of its decomposition, as a graph") ∷
-    row_of (codes "elementary") [] skip_file (codes "a line for each elementary component, as a graph") ∷
-    row_of (codes "graph") [] file (codes "the file of one graph, for mcg") ∷
-    row_of (codes "select") (what ∷ []) skip_file (codes "the lines whose graph has a property") ∷
-    row_of (codes "encode") file [] (codes "the line of a file for mcg; parallel edges count once") ∷ []
+    row_with (codes "kinds") [] skip_file (codes "a line for each graph: its kind, its bricks and its braces") ∷
+    row_with (codes "leaves") [] (one_of (codes "ORDER") orders [] (codes "an ORDER") ∷ skip_file) (codes "a line for each leaf of its decomposition, as a graph") ∷
+    row_with (codes "elementary") [] skip_file (codes "a line for each elementary component, as a graph") ∷
+    row_with (codes "graph") [] file (codes "the file of one graph, for mcg") ∷
+    row_with (codes "select") (what ∷ []) skip_file (codes "the lines whose graph has a property") ∷
+    row_with (codes "encode") file [] (codes "the line of a file for mcg; parallel edges count once") ∷ []
 
 -- the usage of `mcg`, and that of `mcg6`
 unfoldable pub usage_text : List ℕ

@@ -15,7 +15,7 @@ abbrev pub gap : List StoredCandidate → ℕ → ℕ
 gap list i = gap_of (slice_get list i)
 
 -- the first place with the least difference between inside and outside
-pub record IsBalanced (list : List StoredCandidate) (place : ℕ) : Type 0 where
+pub record IsMostBalanced (list : List StoredCandidate) (place : ℕ) : Type 0 where
   pub held : place < length list
   pub least : (i : ℕ) → i < length list → gap list place ≤ gap list i
   pub first : (i : ℕ) → i < place → gap list place < gap list i
@@ -24,12 +24,12 @@ pub record IsBalanced (list : List StoredCandidate) (place : ℕ) : Type 0 where
 pub record PicksBalanced (list : List Candidate) (place : ℕ) : Type 0 where
   pub stored : List StoredCandidate
   pub shows : map candidate_of stored ≡ list
-  pub balanced : IsBalanced stored place
+  pub balanced : IsMostBalanced stored place
 
 -- the answer counts as the place: it is the place if it is one of so many, and else the place
 -- is the first
-abbrev pub CountsAs : (answer places place : ℕ) → Type 0
-CountsAs answer places place = ((answer < places) × (place ≡ answer)) ⊎ ((places ≤ answer) × (place ≡ 0))
+abbrev pub CountsAsPlace : (answer places place : ℕ) → Type 0
+CountsAsPlace answer places place = ((answer < places) × (place ≡ answer)) ⊎ ((places ≤ answer) × (place ≡ 0))
 
 -- a call of the function on these candidates and this number of cuts may answer what counts as
 -- this place
@@ -38,4 +38,4 @@ pub record PicksAsked (post : Bor (List StoredCandidate) → ℕ → ℕ → Typ
   pub shows : map candidate_of shown.now ≡ list
   pub answer : ℕ
   pub says : post shown cuts answer
-  pub counts : CountsAs answer (length shown.now) place
+  pub counts : CountsAsPlace answer (length shown.now) place

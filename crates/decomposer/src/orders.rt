@@ -1,7 +1,7 @@
 //! Orders of choice: the trait, the orders that have names, and the order of a list of picks.
 ghost use Rattle.std.specs.Prelude.{◌≡◌, ◌<◌, ◌≤◌, ◌%◌, List, ℕ, length, map, IsTrue, slice_index_or};
 ghost use Rattle.tight_cuts.specs.Common.{Candidate, candidate_of};
-ghost use Rattle.decomposer.specs.Choices.{IsBalanced};
+ghost use Rattle.decomposer.specs.Choices.{IsMostBalanced};
 ghost use Rattle.decomposer.specs.Orders.{NamedPicks, ScriptPicks, order_named, scripted_place};
 
 use tight_cuts::Candidate;
@@ -87,7 +87,7 @@ impl Order for NamedOrder {
 // The first place in a nonempty list with the least difference between inside and outside.
 fn balanced_place(list: &[Candidate]) -> usize
     requires { 0 < length list.now }
-    ensures { IsBalanced list.now result }
+    ensures { IsMostBalanced list.now result }
 {
     let mut best = 0;
     for place in 1..list.len() {

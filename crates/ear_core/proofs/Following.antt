@@ -5,7 +5,7 @@ use Rattle.std.proofs.Math.Path.{fun_ext}
 use Rattle.counting.proofs.Common.{and_parts, or_right, count_more, or_false_back, Within, count, mem, Set, complement}
 use Rattle.graph_core.proofs.Common.{Graph, IsGraph}
 use Rattle.match_core.specs.declared.matching.MatchRow.{MatchRow}
-use Rattle.ear_core.specs.Common.{row_edge, mate, KeepsMates, IsAlternating, IsClear, IsTraced, HoldsMates, IsMatedEar, AreMatedEars, is_left, PlainEar, trail, is_met}
+use Rattle.ear_core.specs.Common.{row_edge, mate, KeepsMates, LeadsAlternately, IsClear, IsTraced, HoldsMatesOff, IsMatedEar, AreMatedEars, is_left, PlainEar, trail, is_met}
 use Rattle.ear_core.proofs.TraceEdges.{start_mem}
 use Rattle.ear_core.proofs.NextStages.{met-within}
 use Rattle.ear_core.proofs.Mates.{AreMates}
@@ -33,7 +33,7 @@ pub record GoesOn (g : Graph) (met : Set) (m n : ℕ → ℕ) (z : Set) (v : ℕ
 
 -- an ear was made off z; what it leaves has further ears
 pub record IsMade (g : Graph) (f : Set) (m n : ℕ → ℕ) (met z after : Set) (ear : PlainEar) : Type 0 where
-  pub holds : HoldsMates g met m n after
+  pub holds : HoldsMatesOff g met m n after
   pub fewer : count g.order (complement after) + 1 ≤ count g.order (complement z)
   pub more : (ears : List PlainEar) → AreMatedEars g f m n after ears → AreMatedEars g f m n z (ear ∷ ears)
 
@@ -64,8 +64,8 @@ module _ (g : Graph) (is : IsGraph g) (met : Set) (m : ℕ → ℕ) (pm : AreMat
       traced-longer : (old mid new : List ℕ) → mid ≡ (old ++ e ∷ []) ++ d ∷ [] → (after : Set) → IsTraced g met m n passed x mid new after → IsTraced g met m n z v old new after
       traced-longer old mid new appended after traced =
           let es = traced.0 in
-          let p : IsAlternating g met m n (passed_too g is met m pm n pn keeps z v wv clear out) (mate g n (mate g m v)) es =
-          subst (λ u. IsAlternating g met m n (passed_too g is met m pm n pn keeps z v wv clear out) u es) next-is (subst (λ (y : Set). IsAlternating g met m n y x es) passed-is traced.2) in (
+          let p : LeadsAlternately g met m n (passed_too g is met m pm n pn keeps z v wv clear out) (mate g n (mate g m v)) es =
+          subst (λ u. LeadsAlternately g met m n (passed_too g is met m pm n pn keeps z v wv clear out) u es) next-is (subst (λ (y : Set). LeadsAlternately g met m n y x es) passed-is traced.2) in (
             m v ∷ n (mate g m v) ∷ es,
             traced.1 ∙ ap (λ (xs : List ℕ). xs ++ es) appended ∙ append_assoc (old ++ e ∷ []) (d ∷ []) es ∙ append_assoc old (e ∷ []) (d ∷ es) ∙ ap (λ k. old ++ k ∷ d ∷ es) edge ∙ ap (λ k. old ++ m v ∷ k ∷ es) (back ∙ ap n other),
             path_goes_on g is met m pm n pn keeps z v wv clear out es p,
@@ -86,19 +86,19 @@ module _ (g : Graph) (is : IsGraph g) (f : Set) (m n : ℕ → ℕ) (met : Set) 
   pub collected-none : (z : Set) → ((v : ℕ) → Within g.order v → is_left met f m z v ≡ false) → AreMatedEars g f m n z []
   collected-none z nothing = none-left g f m n z (subst (λ (t : Set). (v : ℕ) → Within g.order v → is_left t f m z v ≡ false) met-is nothing)
 
-  module _ (z : Set) (holds : HoldsMates g met m n z) (v : ℕ) (left : is_left met f m z v ≡ true) where
+  module _ (z : Set) (holds : HoldsMatesOff g met m n z) (v : ℕ) (left : is_left met f m z v ≡ true) where
     left-there : is_left (is_met g f) f m z v ≡ true
     left-there = subst (λ (t : Set). is_left t f m z v ≡ true) met-is left
 
-    holds-there : HoldsMates g (is_met g f) m n z
-    holds-there = subst (λ (t : Set). HoldsMates g t m n z) met-is holds
+    holds-there : HoldsMatesOff g (is_met g f) m n z
+    holds-there = subst (λ (t : Set). HoldsMatesOff g t m n z) met-is holds
 
     pub start-clear : IsClear g met m n z v
     start-clear = subst (λ (t : Set). IsClear g t m n z v) (sym met-is) (left-clear g f m n z v holds-there left-there)
 
     module _ (edges : List ℕ) (after : Set) (traced : IsTraced g met m n z v [] edges after) where
-      path : IsAlternating g (is_met g f) m n z v edges
-      path = subst (λ (t : Set). IsAlternating g t m n z v edges) met-is (subst (λ (es : List ℕ). IsAlternating g met m n z v es) (sym traced.1) traced.2)
+      path : LeadsAlternately g (is_met g f) m n z v edges
+      path = subst (λ (t : Set). LeadsAlternately g t m n z v edges) met-is (subst (λ (es : List ℕ). LeadsAlternately g met m n z v es) (sym traced.1) traced.2)
 
       mated : IsMatedEar g f m n (record { begin = v; edges = edges })
       mated = path-mated g f m n z v edges left-there path
@@ -106,8 +106,8 @@ module _ (g : Graph) (is : IsGraph g) (f : Set) (m n : ℕ → ℕ) (met : Set) 
       after-is : after ≡ with_trail g z (record { begin = v; edges = edges })
       after-is = fun_ext (λ u. traced.3 u ∙ ap (λ (es : List ℕ). z u || mem (trail g v es) u) (sym traced.1))
 
-      after-holds : HoldsMates g met m n after
-      after-holds = subst (λ (t : Set). HoldsMates g t m n after) (sym met-is) (subst (λ (y : Set). HoldsMates g (is_met g f) m n y) (sym after-is) (passed-too g f m n z (record { begin = v; edges = edges }) holds-there mated))
+      after-holds : HoldsMatesOff g met m n after
+      after-holds = subst (λ (t : Set). HoldsMatesOff g t m n after) (sym met-is) (subst (λ (y : Set). HoldsMatesOff g (is_met g f) m n y) (sym after-is) (passed-too g f m n z (record { begin = v; edges = edges }) holds-there mated))
 
       after-fewer : count g.order (complement after) + 1 ≤ count g.order (complement z)
       after-fewer =

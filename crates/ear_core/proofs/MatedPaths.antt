@@ -5,14 +5,14 @@ use Rattle.std.proofs.Common.{◌≡◌, ℕ, ◌+◌, ◌≤◌, ◌≢◌, tru
 use Rattle.counting.proofs.Common.{cases_eq, cases_Bool, both_ways, true≢false, false_from_ne_true, not-true, or_left, or_right, or_cases, count_more, times_mem, Within, bit, count, mem, times, Set, complement}
 use Rattle.ear_core.proofs.TraceEdges.{start_mem}
 use Rattle.ear_core.proofs.Mates.{AreMates, mate_back, mate_within}
-use Rattle.ear_core.specs.Common.{mate, KeepsMates, IsAlternating, IsClear, last_vertex, trail}
+use Rattle.ear_core.specs.Common.{mate, KeepsMates, LeadsAlternately, IsClear, last_vertex, trail}
 use Rattle.graph_core.proofs.Common.{Graph, IsGraph, first_end, second_end}
 
 module _ (g : Graph) (is : IsGraph g) (met : Set) (m : ℕ → ℕ) (pm : AreMates g m) (n : ℕ → ℕ) (pn : AreMates g n) (inv : KeepsMates g n met) where
   out_n : (w : ℕ) → Within g.order w → met w ≡ false → met (mate g n w) ≡ false
   out_n w ww o = false_from_ne_true (met (mate g n w)) (λ t. both_ways (met w) o (ap met (sym (mate_back g is n pn w ww)) ∙ inv (mate g n w) (mate_within g is n pn w ww) t))
 
-  pub path_ends : (z : Set) (v : ℕ) → Within g.order v → IsClear g met m n z v → met (mate g m v) ≡ true → IsAlternating g met m n z v (m v ∷ [])
+  pub path_ends : (z : Set) (v : ℕ) → Within g.order v → IsClear g met m n z v → met (mate g m v) ≡ true → LeadsAlternately g met m n z v (m v ∷ [])
   path_ends z v wv c t = record {
     follow = ((pm.within v wv, pm.at v wv), tt);
     odd = refl;
@@ -102,7 +102,7 @@ module _ (g : Graph) (is : IsGraph g) (met : Set) (m : ℕ → ℕ) (pm : AreMat
     pub fewer_left : count g.order (complement passed_too) + 1 ≤ count g.order (complement z)
     fewer_left = count_more g.order (complement passed_too) (complement z) (λ u h. ap not (false_from_ne_true (z u) (λ i. both_ways (passed_too u) (not-true (passed_too u) h) (was_passed u i)))) v wv (ap not (begin_passed v refl)) (ap not c.fresh)
 
-    pub path_goes_on : (es : List ℕ) → IsAlternating g met m n passed_too next es → IsAlternating g met m n z v (m v ∷ n w ∷ es)
+    pub path_goes_on : (es : List ℕ) → LeadsAlternately g met m n passed_too next es → LeadsAlternately g met m n z v (m v ∷ n w ∷ es)
     path_goes_on es p = record {
       follow = ((pm.within v wv, pm.at v wv), ((pn.within w ww, pn.at w ww), p.follow));
       odd = grind arith;

@@ -11,7 +11,7 @@ use Rattle.ear_core.proofs.NextStages.{met-within}
 use Rattle.ear_core.specs.Common.{IsPerfectOff, IsStage, adjacent_by, is_met}
 use Rattle.graph_core.proofs.Common.{ends_le_degree, ends_of, adjacent_from, has_ends-back, has_ends-cases, has_ends-own, IsCovered, Graph, IsGraph, degree, first_end, has_ends, second_end, size, IsPerfect, Joined, Walk}
 use Rattle.two_ears.proofs.TwoEars.{two_ears}
-use Rattle.two_ears.specs.VertexPairs.{AreDisjoint, in_pairs, pairs_at, vertices_of}
+use Rattle.two_ears.specs.VertexPairs.{AreDisjoint, in_pairs, pairs_at, set_of_pair}
 
 -- the values of f at 1 to n
 abbrev pub tab : ℕ → (ℕ → ℕ × ℕ) → List (ℕ × ℕ)
@@ -180,12 +180,12 @@ module _ (g : Graph) (is : IsGraph g) (f : Set) where
         let c = ranked-ends ps (λ q i. h q (inr i)) v tv in omega arith
 
     same-pairs : (a b p q : ℕ × ℕ) → p ≡ (count a.0 t, count a.1 t) → q ≡ (count b.0 t, count b.1 t) → (t a.0 ≡ true) × (t a.1 ≡ true) → (t b.0 ≡ true) × (t b.1 ≡ true) → (v : ℕ) → t v ≡ true →
-        union (vertices_of p) (vertices_of q) (count v t) ≡ union (vertices_of a) (vertices_of b) v
+        union (set_of_pair p) (set_of_pair q) (count v t) ≡ union (set_of_pair a) (set_of_pair b) v
     same-pairs a b p q e d ha hb v tv = grind (arith, rank-test t a.0 v ha.0 tv, rank-test t a.1 v ha.1 tv, rank-test t b.0 v hb.0 tv, rank-test t b.1 v hb.1 tv)
 
     -- of pairs of vertices of a stage that serve together two serve, or one
     pub pairs-serve : (ps : List (ℕ × ℕ)) → ps ≢ [] → ((p : ℕ × ℕ) → IsIn p ps → (t p.0 ≡ true) × (t p.1 ≡ true)) → ((v : ℕ) → Within g.order v → pairs_at ps v ≤ 1) → (m : Set) → IsPerfectOff g f (in_pairs ps) m →
-        (p : ℕ × ℕ) × (q : ℕ × ℕ) × IsIn p ps × IsIn q ps × ((n : Set) × IsPerfectOff g f (union (vertices_of p) (vertices_of q)) n)
+        (p : ℕ × ℕ) × (q : ℕ × ℕ) × IsIn p ps × IsIn q ps × ((n : Set) × IsPerfectOff g f (union (set_of_pair p) (set_of_pair q)) n)
     pairs-serve ps filled_ps h once m p =
         let dis : AreDisjoint k.order (ranked t ps) = record {
           within = λ q i. let r = ranked-in ps q i in
@@ -202,7 +202,7 @@ module _ (g : Graph) (is : IsGraph g) (f : Set) where
           b.1,
           (
             x.4.0,
-            ranked-off (union (vertices_of a.0) (vertices_of b.0)) (union (vertices_of x.0) (vertices_of x.1))
+            ranked-off (union (set_of_pair a.0) (set_of_pair b.0)) (union (set_of_pair x.0) (set_of_pair x.1))
                 (λ v w tv. same-pairs a.0 b.0 x.0 x.1 a.2 b.2 (h a.0 a.1) (h b.0 b.1) v tv) ranked-graph x.4.0 x.4.1,
           ),
         )

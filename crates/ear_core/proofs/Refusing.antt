@@ -4,7 +4,7 @@
 use Rattle.std.proofs.Common.{◌≡◌, ℕ, ◌+◌, Bool, true, false, if◌then◌else◌, Option, Some, None, refl, sym, ap, ◌∙◌, ◌||◌, inl, inr, [], ◌∷◌, List, arith}
 use Rattle.counting.proofs.Common.{both_ways, Within, mem, Set, none}
 use Rattle.graph_core.proofs.Common.{Graph, size, IsGraph}
-use Rattle.ear_core.specs.Common.{IsStage, AllowedBy, with_edges, IsNearlyStage, odds, PlainStep, one, two, next_stage, IsStep, AreSteps, PlainWhy, not_path, even_length, bad_ends, inner_on_stage, edge_used, is_path, has_odd_length, has_good_ends, has_free_inner, has_new_edges, Passes, ear_fault, first_of, step_fault, IsLeastUnallowed, IsStepRefused, IsFirstRefusal}
+use Rattle.ear_core.specs.Common.{IsStage, AllowedBy, with_edges, IsNearlyStage, odds, PlainStep, one, two, next_stage, IsStep, AreSteps, PlainWhy, not_path, even_length, bad_ends, inner_on_stage, edge_used, is_path, has_odd_length, has_good_ends, has_free_inner, has_new_edges, Passes, ear_fault, first_why, step_fault, IsLeastUnallowed, IsStepRefused, IsFirstRefusal}
 use Rattle.ear_core.proofs.AddedEars.{grow}
 use Rattle.ear_core.proofs.NextStages.{nearly, met-within, second_ear}
 use Rattle.ear_core.proofs.EarTests.{first_passes, second_passes}
@@ -30,10 +30,10 @@ none-passes : (g : Graph) (f : Set) (xs ds : List ℕ) (v : ℕ) (es : List ℕ)
 none-passes g f xs ds v es p = grind arith
 
 -- of two faults
-both-none : (first other : Option PlainWhy) → first_of first other ≡ None → (first ≡ None) × (other ≡ None)
+both-none : (first other : Option PlainWhy) → first_why first other ≡ None → (first ≡ None) × (other ≡ None)
 both-none first other h = grind arith
 
-none-both : (first other : Option PlainWhy) → first ≡ None → other ≡ None → first_of first other ≡ None
+none-both : (first other : Option PlainWhy) → first ≡ None → other ≡ None → first_why first other ≡ None
 none-both first other h k = rw (h, k) refl
 
 -- no test of a step fails exactly when it is a step

@@ -6,7 +6,7 @@ use Rattle.std.proofs.Common.{◌≡◌, ℕ, ◌+◌, ◌≤◌, true, false, �
 use Rattle.counting.proofs.Common.{cases_eq, cases_Bool, and_parts, and_from, both_ways, true≢false, false_from_ne_true, not-true, not-false, or_left, or_right, or_parts, or_cases, times_mem, bit, Within, mem, times, IsIn, Set, none}
 use Rattle.graph_core.proofs.Common.{ends_of, edge_at, ends_le_degree, Graph, size, degree, IsPerfect}
 use Rattle.two_ears.specs.VertexPairs.{pairs_at, in_pairs}
-use Rattle.ear_core.specs.Common.{IsAlternating, IsClear, HoldsMates, IsMatedEar, ends_of_ears, AreMatedEars, is_left, AreCandidates, PlainEar, trail, last_vertex, is_met, IsPerfectOff}
+use Rattle.ear_core.specs.Common.{LeadsAlternately, IsClear, HoldsMatesOff, IsMatedEar, ends_of_ears, AreMatedEars, is_left, AreCandidates, PlainEar, trail, last_vertex, is_met, IsPerfectOff}
 use Rattle.ear_core.proofs.TraceEdges.{edges-within, ends_of-other_end, degree_le, some-met}
 use Rattle.ear_core.proofs.AddedEars.{evens_at}
 use Rattle.ear_core.proofs.Mates.{AreMates}
@@ -61,15 +61,15 @@ module _ (g : Graph) (f : Set) (m n : ℕ → ℕ) where
   none-left z h = grind arith
 
   -- the vertices of an ear hold their mates too
-  pub passed-too : (z : Set) (a : PlainEar) → HoldsMates g (is_met g f) m n z → IsMatedEar g f m n a → HoldsMates g (is_met g f) m n (with_trail g z a)
+  pub passed-too : (z : Set) (a : PlainEar) → HoldsMatesOff g (is_met g f) m n z → IsMatedEar g f m n a → HoldsMatesOff g (is_met g f) m n (with_trail g z a)
   passed-too z a c good = grind (arith, or_cases, or_left, or_right)
 
   -- at a vertex that is left a path may begin
-  pub left-clear : (z : Set) (v : ℕ) → HoldsMates g (is_met g f) m n z → is_left (is_met g f) f m z v ≡ true → IsClear g (is_met g f) m n z v
+  pub left-clear : (z : Set) (v : ℕ) → HoldsMatesOff g (is_met g f) m n z → is_left (is_met g f) f m z v ≡ true → IsClear g (is_met g f) m n z v
   left-clear z v c t = grind arith
 
   -- and the path is an ear
-  pub path-mated : (z : Set) (v : ℕ) (es : List ℕ) → is_left (is_met g f) f m z v ≡ true → IsAlternating g (is_met g f) m n z v es → IsMatedEar g f m n (record { begin = v; edges = es })
+  pub path-mated : (z : Set) (v : ℕ) (es : List ℕ) → is_left (is_met g f) f m z v ≡ true → LeadsAlternately g (is_met g f) m n z v es → IsMatedEar g f m n (record { begin = v; edges = es })
   path-mated z v es t p = record {
     ear = record { follow = p.follow; once = p.once; odd = p.odd; start = a.0; end = p.end; inner = p.inner; new = new };
     by_m = p.by_m;

@@ -3,7 +3,7 @@
 use Rattle.std.proofs.Common.{◌≡◌, ◌≢◌, ℕ, ◌+◌, ◌≤◌, true, false, ◌==◌, refl, sym, ap, ap₂, arith, eq-eqb, eqb-true, inl, inr, subst, [], ◌∷◌, List}
 use Rattle.counting.proofs.Common.{false_from_ne_true, or_left, or_right, or_cases, bit, mem, IsIn, Set, union}
 use Rattle.graph_core.proofs.Common.{ends_of, Graph, first_end, IsGraph}
-use Rattle.two_ears.specs.VertexPairs.{pairs_at, vertices_of}
+use Rattle.two_ears.specs.VertexPairs.{pairs_at, set_of_pair}
 use Rattle.ear_core.specs.Common.{ends_of_ears, AreCandidates, Serves, ends_of_ear, PlainEar, other_end, trail, last_vertex, IsEar, IsEarPair, is_met, IsStage, with_edges}
 use Rattle.ear_core.proofs.TraceEdges.{start_mem, trail_has}
 use Rattle.ear_core.proofs.RankedStages.{pairs-serve}
@@ -51,7 +51,7 @@ module _ (g : Graph) (is : IsGraph g) (f : Set) (stage : IsStage g f) where
       (λ w ww. c.once w) c.serve.0 c.serve.1 in
       let a = among-pairs g ears x.0 x.2 in
       let b = among-pairs g ears x.1 x.3 in
-      (a.0, b.0, a.1, b.1, (x.4.0, off-same g f (union (vertices_of x.0) (vertices_of x.1)) (union (ends_of_ear g a.0) (ends_of_ear g b.0)) x.4.0 (λ w. ap₂ (λ (c d : ℕ × ℕ). union (vertices_of c) (vertices_of d) w) a.2 b.2) x.4.1))
+      (a.0, b.0, a.1, b.1, (x.4.0, off-same g f (union (set_of_pair x.0) (set_of_pair x.1)) (union (ends_of_ear g a.0) (ends_of_ear g b.0)) x.4.0 (λ w. ap₂ (λ (c d : ℕ × ℕ). union (set_of_pair c) (set_of_pair d) w) a.2 b.2) x.4.1))
     where
       filled : (ears : List PlainEar) → ears ≢ [] → ends_of_ears g ears ≢ []
       filled [] d = λ e. d refl

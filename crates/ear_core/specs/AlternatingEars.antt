@@ -32,7 +32,7 @@ KeepsMates g n t = (w : ℕ) → Within g.order w → t w ≡ true → t (mate g
 
 -- the edges es lead from v by edges of m and n in turn to the first vertex of t, off the vertices
 -- of z
-pub record IsAlternating (g : Graph) (t : Set) (m n : ℕ → ℕ) (z : Set) (v : ℕ) (es : List ℕ) : Type 0 where
+pub record LeadsAlternately (g : Graph) (t : Set) (m n : ℕ → ℕ) (z : Set) (v : ℕ) (es : List ℕ) : Type 0 where
   pub follow : Follow g v es
   pub odd : is_odd (length es) ≡ true
   pub once : (w : ℕ) → times (trail g v es) w ≤ 1
@@ -46,7 +46,7 @@ pub record IsAlternating (g : Graph) (t : Set) (m n : ℕ → ℕ) (z : Set) (v 
 
 -- such edges were appended, and their vertices were added to z
 abbrev pub IsTraced : Graph → Set → (m n : ℕ → ℕ) → Set → ℕ → (old new : List ℕ) → Set → Type 0
-IsTraced g t m n z v old new after = (es : List ℕ) × (new ≡ old ++ es) × IsAlternating g t m n z v es × ((w : ℕ) → after w ≡ (z w || mem (trail g v es) w))
+IsTraced g t m n z v old new after = (es : List ℕ) × (new ≡ old ++ es) × LeadsAlternately g t m n z v es × ((w : ℕ) → after w ≡ (z w || mem (trail g v es) w))
 
 -- z holds the mates of its vertices, those by n off t alone and but for v; v is not in z
 pub record IsClear (g : Graph) (t : Set) (m n : ℕ → ℕ) (z : Set) (v : ℕ) : Type 0 where
@@ -56,7 +56,7 @@ pub record IsClear (g : Graph) (t : Set) (m n : ℕ → ℕ) (z : Set) (v : ℕ)
   pub back : t v ≡ false → z (mate g n v) ≡ true
 
 -- z holds the mates of its vertices, those by n off t alone
-pub record HoldsMates (g : Graph) (t : Set) (m n : ℕ → ℕ) (z : Set) : Type 0 where
+pub record HoldsMatesOff (g : Graph) (t : Set) (m n : ℕ → ℕ) (z : Set) : Type 0 where
   pub by_m : (w : ℕ) → Within g.order w → z w ≡ true → z (mate g m w) ≡ true
   pub by_n : (w : ℕ) → Within g.order w → z w ≡ true → t w ≡ false → z (mate g n w) ≡ true
 

@@ -5,9 +5,9 @@ pub use Rattle.ear_core.specs.EarLists.{PlainEar, PlainStep, one, two, PlainEars
 pub use Rattle.ear_core.specs.View.{ear_of, plain_step, step_of, ears_of, why_of, refusal_of}
 pub use Rattle.ear_core.specs.NearlyStages.{odds, evens, IsNearlyStage}
 pub use Rattle.ear_core.specs.EarTests.{PlainWhy, not_path, even_length, bad_ends, inner_on_stage, edge_used, stage_not_covered, ends_early, follows, front, inner_vertices, repeats, no_member, is_empty, is_path, has_odd_length, has_good_ends, has_free_inner, has_new_edges, Passes, ear_fault}
-pub use Rattle.ear_core.specs.Refusals.{first_of, step_fault, IsLeastUnallowed, IsStepRefused, IsFirstRefusal, IsJudged, IsRefused, AcceptsList, RefusesList}
+pub use Rattle.ear_core.specs.Refusals.{first_why, step_fault, IsLeastUnallowed, IsStepRefused, IsFirstRefusal, IsJudged, IsRefused, AcceptsList, RefusesList}
 pub use Rattle.ear_core.specs.StageGraphs.{listed, by_rank, Settled, asked_too, IsUpTo, IsBehind}
-pub use Rattle.ear_core.specs.AlternatingEars.{IsPerfectRows, row_edge, mate, KeepsMates, IsAlternating, IsTraced, IsClear, HoldsMates, IsMatedEar, ends_of_ears, AreApart, AreMatedEars, is_left, Serves, ends_of_ear, AreCandidates, IsChosen}
+pub use Rattle.ear_core.specs.AlternatingEars.{IsPerfectRows, row_edge, mate, KeepsMates, LeadsAlternately, IsTraced, IsClear, HoldsMatesOff, IsMatedEar, ends_of_ears, AreApart, AreMatedEars, is_left, Serves, ends_of_ear, AreCandidates, IsChosen}
 pub use Rattle.ear_core.specs.Asking.{IsAsked, IsBefore, AreEars, FindsAlone, FindsBeside, FindsTwo, NoneServes, NoneServesBeside, NoTwoServe}
 pub use Rattle.ear_core.specs.FaultPlaces.{astray, wrong_end, entering, edge_of_fault, fault_edge, nowhere, place_of_two, place_in_step, place_from, fault_place}
 pub use Rattle.ear_core.specs.TakenSteps.{IsTaken}

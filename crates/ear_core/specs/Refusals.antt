@@ -10,15 +10,15 @@ use Rattle.ear_core.specs.EarLists.{PlainStep, one, two, PlainEars, next_stage, 
 use Rattle.ear_core.specs.EarTests.{PlainWhy, stage_not_covered, ends_early, ear_fault, inner_vertices}
 
 -- the first of two
-abbrev pub first_of : Option PlainWhy → Option PlainWhy → Option PlainWhy
-first_of (Some why) other = Some why
-first_of None other = other
+abbrev pub first_why : Option PlainWhy → Option PlainWhy → Option PlainWhy
+first_why (Some why) other = Some why
+first_why None other = other
 
 -- the first test that a step fails on the stage f, before its new stage is looked at
 abbrev pub step_fault : Graph → Set → PlainStep → Option PlainWhy
 step_fault g f (one a) = ear_fault g f [] [] a.begin a.edges
 step_fault g f (two a b) =
-    first_of (ear_fault g f [] [] a.begin a.edges) (ear_fault g f (inner_vertices g a.begin a.edges) a.edges b.begin b.edges)
+    first_why (ear_fault g f [] [] a.begin a.edges) (ear_fault g f (inner_vertices g a.begin a.edges) a.edges b.begin b.edges)
 
 -- e is the least edge of f that lies in no perfect matching of the graph of f
 abbrev pub IsLeastUnallowed : Graph → Set → ℕ → Type 0

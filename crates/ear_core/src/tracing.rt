@@ -3,7 +3,7 @@ ghost use Rattle.std.specs.Prelude.{◌≡◌, ◌++◌, ◌||◌, ◌==◌, ◌
 ghost use Rattle.counting.specs.Common.{Within, mem};
 ghost use Rattle.graph_core.specs.Common.{size};
 ghost use Rattle.match_search.specs.Common.{marks};
-ghost use Rattle.ear_core.specs.Common.{IsPerfectRows, row_edge, mate, KeepsMates, IsClear, IsTraced, HoldsMates, AreMatedEars, is_left, PlainEar, other_end, is_met, ear_of};
+ghost use Rattle.ear_core.specs.Common.{IsPerfectRows, row_edge, mate, KeepsMates, IsClear, IsTraced, HoldsMatesOff, AreMatedEars, is_left, PlainEar, other_end, is_met, ear_of};
 
 use crate::ears::Ear;
 use graph_core::{MultiGraph, Numbers};
@@ -134,7 +134,7 @@ pub fn collect(
     requires leading { IsPerfectRows g.now m.now }
     requires kept { IsPerfectRows g.now n.now }
     requires mates { KeepsMates g.now (row_edge n.now.rows) (mem met) }
-    requires holds { HoldsMates g.now (mem met) (row_edge m.now.rows) (row_edge n.now.rows)
+    requires holds { HoldsMatesOff g.now (mem met) (row_edge m.now.rows) (row_edge n.now.rows)
         (mem used) }
     ensures { IfOk result
         (λ _. (more : List PlainEar) ×

@@ -7,7 +7,7 @@ use Rattle.line_text.specs.Common.{Stands}
 use Rattle.graph_text.specs.Common.{NamedGraph, either_version}
 
 -- the text stands for a graph that is not matching covered, for this reason
-pub record IsUncovered (text : List ℕ) (reason : Reason) : Type 0 where
+pub record IsUncoveredText (text : List ℕ) (reason : Reason) : Type 0 where
   pub named : NamedGraph
   pub stands : Stands either_version text named
   pub right : IsReason named.graph (reason_of reason)

@@ -7,7 +7,7 @@ ghost use Rattle.line_text.specs.Common.{Stands, IsFirstFault};
 ghost use Rattle.graph_text.specs.Common.{either_version, named_graph};
 ghost use Rattle.tree_core.specs.Common.{IsDerivation, shape_of};
 ghost use Rattle.decomposer.specs.Common.{IsPicked};
-ghost use Rattle.example_order.specs.Failures.{IsUncovered};
+ghost use Rattle.example_order.specs.Failures.{IsUncoveredText};
 ghost use Rattle.example_order.specs.WidestCuts.{PicksWidest};
 
 use crate::widest_cuts::Widest;
@@ -68,7 +68,7 @@ pub fn decompose_widest(alloc: Global, text: &[u8]) -> Result<Decomposed, Failed
     ensures text { (fault : TextFault) → result ≡ Err (Failed.Text fault)
         → IsFirstFault either_version text.now fault }
     ensures uncovered { (reason : Reason) → result ≡ Err (Failed.NotCovered reason)
-        → IsUncovered text.now reason }
+        → IsUncoveredText text.now reason }
 {
     let named = match read_any(alloc, text) {
         Ok(named) => named,

@@ -4,7 +4,7 @@
 use Rattle.std.proofs.Common.{◌≡◌, ℕ, suc, zero, ◌≤◌, ◌<◌, ◌≢◌, Bool, true, false, cond, ◌==◌, refl, sym, ap, ap₂, ◌∙◌, arith, ◌&&◌, ◌||◌, not, inl, inr, List, [], ◌∷◌, length, sum_by, eq-eqb, ne_eqb, All, if◌then◌else◌, ℤ, pos, neg_ℤ, ◌+ℤ◌, ◌-ℤ◌, ◌≤ℤ◌, ◌<ℤ◌, unsigned_abs}
 use Rattle.counting.proofs.Common.{cases_Bool, true≢false, All-head, All-tail, sum_by-cons, Within, Set, singleton, mem}
 use Rattle.std.proofs.lemmas.Int.{ints}
-use Rattle.flow_core.specs.Common.{Arc, Net, IsArc, IsNet, leaves_set, value_of, total_capacity, Separates, IsLeastCut, out_by, goes_out, Fits, IsFlow, arc_at, amount_at, Joins, room_from, IsOpenWalk, IsReachedSet}
+use Rattle.flow_core.specs.Common.{Arc, Net, IsArc, IsNet, leaves_set, cut_value, total_capacity, Separates, IsLeastCut, out_by, goes_out, FitsCapacities, IsFlow, arc_at, amount_at, Joins, room_from, IsOpenWalk, IsReachedSet}
 use Rattle.flow_core.proofs.IntegerSums.{sum_to, sum_to-congr, sum_to-add, sum_to-sub, sum_to-zero, sum_to-one}
 
 -- what an arc takes out of x
@@ -68,13 +68,13 @@ AllFull x [] amounts = Unit {0}
 AllFull x (arc ∷ arcs) [] = Unit {0}
 AllFull x (arc ∷ arcs) (amount ∷ amounts) = IsFull x arc amount × AllFull x arcs amounts
 
-across_bound : (x : Set) (arcs : List Arc) (amounts : List ℤ) → Fits arcs amounts → across x arcs amounts ≤ℤ pos (sum_by (share x) arcs)
+across_bound : (x : Set) (arcs : List Arc) (amounts : List ℤ) → FitsCapacities arcs amounts → across x arcs amounts ≤ℤ pos (sum_by (share x) arcs)
 across_bound x [] [] f = omega (arith, ints)
 across_bound x [] (z ∷ amounts) f = absurd f
 across_bound x (arc ∷ arcs) [] f = absurd f
 across_bound x (arc ∷ arcs) (z ∷ amounts) f = grind (arith, across_bound x arcs amounts f.1, arc_bound (x arc.a) (x arc.b) z arc.capacity f.0, sum_by-cons (share x) arc arcs)
 
-across-full : (x : Set) (arcs : List Arc) (amounts : List ℤ) → Fits arcs amounts → across x arcs amounts ≡ pos (sum_by (share x) arcs) → AllFull x arcs amounts
+across-full : (x : Set) (arcs : List Arc) (amounts : List ℤ) → FitsCapacities arcs amounts → across x arcs amounts ≡ pos (sum_by (share x) arcs) → AllFull x arcs amounts
 across-full x [] [] f e = tt
 across-full x [] (z ∷ amounts) f e = absurd f
 across-full x (arc ∷ arcs) [] f e = absurd f
@@ -85,33 +85,33 @@ across-full x (arc ∷ arcs) (z ∷ amounts) f e =
     let full = arc_full (x arc.a) (x arc.b) z arc.capacity f.0 (omega (arith, ints)) in
     (record { from_a = full.0; from_b = full.1 }, across-full x arcs amounts f.1 (omega (arith, ints)))
 
-full-across : (x : Set) (arcs : List Arc) (amounts : List ℤ) → Fits arcs amounts → AllFull x arcs amounts → across x arcs amounts ≡ pos (sum_by (share x) arcs)
+full-across : (x : Set) (arcs : List Arc) (amounts : List ℤ) → FitsCapacities arcs amounts → AllFull x arcs amounts → across x arcs amounts ≡ pos (sum_by (share x) arcs)
 full-across x [] [] f h = refl
 full-across x [] (z ∷ amounts) f h = absurd f
 full-across x (arc ∷ arcs) [] f h = absurd f
 full-across x (arc ∷ arcs) (z ∷ amounts) f h = grind (arith, full-across x arcs amounts f.1 h.1, full_arc (x arc.a) (x arc.b) z arc.capacity h.0.from_a h.0.from_b, sum_by-cons (share x) arc arcs)
 
 -- as many amounts as arcs
-pub Fits-length : (arcs : List Arc) (amounts : List ℤ) → Fits arcs amounts → length amounts ≡ length arcs
-Fits-length [] [] f = refl
-Fits-length [] (z ∷ amounts) f = absurd f
-Fits-length (arc ∷ arcs) [] f = absurd f
-Fits-length (arc ∷ arcs) (z ∷ amounts) f = ap suc (Fits-length arcs amounts f.1)
+pub FitsCapacities-length : (arcs : List Arc) (amounts : List ℤ) → FitsCapacities arcs amounts → length amounts ≡ length arcs
+FitsCapacities-length [] [] f = refl
+FitsCapacities-length [] (z ∷ amounts) f = absurd f
+FitsCapacities-length (arc ∷ arcs) [] f = absurd f
+FitsCapacities-length (arc ∷ arcs) (z ∷ amounts) f = ap suc (FitsCapacities-length arcs amounts f.1)
 
 -- the amount on each arc is within its capacity
-pub Fits-at : (arcs : List Arc) (amounts : List ℤ) → Fits arcs amounts → (i : ℕ) → i < length arcs → unsigned_abs (amount_at amounts i) ≤ (arc_at arcs i).capacity
-Fits-at [] amounts f i l = absurd (omega arith)
-Fits-at (arc ∷ arcs) [] f i l = absurd f
-Fits-at (arc ∷ arcs) (z ∷ amounts) f zero l = f.0
-Fits-at (arc ∷ arcs) (z ∷ amounts) f (suc i) l = Fits-at arcs amounts f.1 i (omega arith)
+pub FitsCapacities-at : (arcs : List Arc) (amounts : List ℤ) → FitsCapacities arcs amounts → (i : ℕ) → i < length arcs → unsigned_abs (amount_at amounts i) ≤ (arc_at arcs i).capacity
+FitsCapacities-at [] amounts f i l = absurd (omega arith)
+FitsCapacities-at (arc ∷ arcs) [] f i l = absurd f
+FitsCapacities-at (arc ∷ arcs) (z ∷ amounts) f zero l = f.0
+FitsCapacities-at (arc ∷ arcs) (z ∷ amounts) f (suc i) l = FitsCapacities-at arcs amounts f.1 i (omega arith)
 
-AllFull-at : (x : Set) (arcs : List Arc) (amounts : List ℤ) → Fits arcs amounts → AllFull x arcs amounts → (i : ℕ) → i < length arcs → IsFull x (arc_at arcs i) (amount_at amounts i)
+AllFull-at : (x : Set) (arcs : List Arc) (amounts : List ℤ) → FitsCapacities arcs amounts → AllFull x arcs amounts → (i : ℕ) → i < length arcs → IsFull x (arc_at arcs i) (amount_at amounts i)
 AllFull-at x [] amounts f h i l = absurd (omega arith)
 AllFull-at x (arc ∷ arcs) [] f h i l = absurd f
 AllFull-at x (arc ∷ arcs) (z ∷ amounts) f h zero l = h.0
 AllFull-at x (arc ∷ arcs) (z ∷ amounts) f h (suc i) l = AllFull-at x arcs amounts f.1 h.1 i (omega arith)
 
-AllFull-from : (x : Set) (arcs : List Arc) (amounts : List ℤ) → Fits arcs amounts → ((i : ℕ) → i < length arcs → IsFull x (arc_at arcs i) (amount_at amounts i)) → AllFull x arcs amounts
+AllFull-from : (x : Set) (arcs : List Arc) (amounts : List ℤ) → FitsCapacities arcs amounts → ((i : ℕ) → i < length arcs → IsFull x (arc_at arcs i) (amount_at amounts i)) → AllFull x arcs amounts
 AllFull-from x [] amounts f h = tt
 AllFull-from x (arc ∷ arcs) [] f h = absurd f
 AllFull-from x (arc ∷ arcs) (z ∷ amounts) f h =
@@ -126,8 +126,8 @@ stays_full : (x : Set) (arc : Arc) (z : ℤ) → unsigned_abs z ≤ arc.capacity
 stays_full x arc z fits h = grind arith
 
 -- no set is worth more than all arcs
-pub value_of-le-total : (net : Net) (x : Set) → value_of net x ≤ total_capacity net
-value_of-le-total net x = go net.arcs
+pub cut_value-le-total : (net : Net) (x : Set) → cut_value net x ≤ total_capacity net
+cut_value-le-total net x = go net.arcs
   where
     part : (b : Bool) (c : ℕ) → cond b c 0 ≤ c
     part b c = grind arith
@@ -146,23 +146,23 @@ module _ (net : Net) (source sink : ℕ) (amounts : List ℤ) (value : ℕ) (is 
       ∙ sum_to-goes_out net.nodes x net.arcs amounts is
 
   -- weak duality: no flow is more than a cut
-  pub flow-le-value_of : (x : Set) → Separates source sink x → value ≤ value_of net x
+  pub flow-le-value_of : (x : Set) → Separates source sink x → value ≤ cut_value net x
   flow-le-value_of x s = let a = flow_across x s in let b = across_bound x net.arcs amounts flow.fits in omega (arith, ints)
 
   -- no flow is more than all arcs
   pub flow-le-total : source ≢ sink → value ≤ total_capacity net
-  flow-le-total d = grind (arith, flow-le-value_of (singleton source), eq-eqb source source refl, ne_eqb source sink d, value_of-le-total net (singleton source))
+  flow-le-total d = grind (arith, flow-le-value_of (singleton source), eq-eqb source source refl, ne_eqb source sink d, cut_value-le-total net (singleton source))
 
   -- where a flow is as much as a cut, the arcs of the cut are full
-  cut_full : (x : Set) → Separates source sink x → value_of net x ≡ value → AllFull x net.arcs amounts
+  cut_full : (x : Set) → Separates source sink x → cut_value net x ≡ value → AllFull x net.arcs amounts
   cut_full x s e = across-full x net.arcs amounts flow.fits (sym (flow_across x s) ∙ ap pos (sym e))
 
   -- and where they are full, it is as much
-  full_value : (x : Set) → Separates source sink x → AllFull x net.arcs amounts → value_of net x ≡ value
+  full_value : (x : Set) → Separates source sink x → AllFull x net.arcs amounts → cut_value net x ≡ value
   full_value x s f = let a = flow_across x s in let b = full-across x net.arcs amounts flow.fits f in omega (arith, ints)
 
   -- a walk over arcs with room does not leave a cut of the flow's value
-  walk_stays : (x : Set) → Separates source sink x → value_of net x ≡ value → (u v : ℕ) (ws : List ℕ) → x u ≡ true → IsOpenWalk net.arcs amounts u ws v → x v ≡ true
+  walk_stays : (x : Set) → Separates source sink x → cut_value net x ≡ value → (u v : ℕ) (ws : List ℕ) → x u ≡ true → IsOpenWalk net.arcs amounts u ws v → x v ≡ true
   walk_stays x s e u v [] h r = ap x (sym r) ∙ h
   walk_stays x s e u v (w ∷ ws) h r = elim (cases_Bool (x v)) [
     | inl t ↦ t
@@ -177,7 +177,7 @@ module _ (net : Net) (source sink : ℕ) (amounts : List ℤ) (value : ℕ) (is 
   reached_least set r = record {
     nodes = r.nodes;
     separates = r.separates;
-    is = full_value (mem set) r.separates (AllFull-from (mem set) net.arcs amounts flow.fits (λ i b. stays_full (mem set) (arc_at net.arcs i) (amount_at amounts i) (Fits-at net.arcs amounts flow.fits i b) (λ u w j p q k. true≢false (sym (r.closed u p w (record { arc = i; is_arc = b; joins = j; room = k })) ∙ q))));
+    is = full_value (mem set) r.separates (AllFull-from (mem set) net.arcs amounts flow.fits (λ i b. stays_full (mem set) (arc_at net.arcs i) (amount_at amounts i) (FitsCapacities-at net.arcs amounts flow.fits i b) (λ u w j p q k. true≢false (sym (r.closed u p w (record { arc = i; is_arc = b; joins = j; room = k })) ∙ q))));
     least = flow-le-value_of;
     inside = λ x t e v m. let k = r.reached v m in walk_stays x t e source v k.0 t.holds k.1;
   }

@@ -4,7 +4,7 @@
 use Rattle.std.proofs.Common.{◌≡◌, ◌≢◌, ℕ, zero, suc, ◌+◌, ◌-◌, ◌≤◌, ◌<◌, List, [], ◌∷◌, ◌++◌, length, get_or, set, take, min, sym, ◌∙◌, ap, subst, arith, inl, inr, length-append, slice_index, ℤ, get_or-set_same, get_or-set_other, length-take}
 use Rattle.counting.proofs.Common.{get_or-append_seam, cases_eq, get_or_read, total_congr, Within, total, row_of}
 use Rattle.std.proofs.lemmas.Int.{ints}
-use Rattle.flow_core.specs.Common.{Net, arc_at, visit_at, node_at, IsStep, IsLaid, arcs_left, work_left}
+use Rattle.flow_core.specs.Common.{Net, arc_at, visit_at, visited_node, IsVisitStep, IsLaid, arcs_left, work_left}
 use Rattle.flow_core.specs.declared.search.Visit.{Visit}
 use Rattle.flow_core.proofs.SearchTrees.{IsTree-push, visit_at-push, room-some}
 use Rattle.flow_core.proofs.Scanning.{Leads, taken, end_within}
@@ -47,16 +47,16 @@ module _ (net : Net) (rows : List (List ℕ)) (amounts : List ℤ) (levels place
   abbrev visit : Visit
   visit = taken node last (get_or row place 0) (min room from.room)
 
-  old : (j : ℕ) → j < length path → node_at (path ++ visit ∷ []) j ≡ node_at path j
+  old : (j : ℕ) → j < length path → visited_node (path ++ visit ∷ []) j ≡ visited_node path j
   old j m = ap (λ (u : Visit). u.node) (visit_at-push path visit j m)
 
-  on : slice_index places (node_at path last) < length (row_of rows (node_at path last))
+  on : slice_index places (visited_node path last) < length (row_of rows (visited_node path last))
   on = grind arith
 
   pub IsLaid-push : IsLaid net rows amounts levels places (path ++ taken node last (get_or row place 0) (min room from.room) ∷ [])
   IsLaid-push = record {
     tree = IsTree-push net amounts path laid.tree visit (omega arith)
-        (subst (λ (u : Visit). IsStep net.arcs amounts u visit) (sym is) (record {
+        (subst (λ (u : Visit). IsVisitStep net.arcs amounts u visit) (sym is) (record {
           is_arc = t.is_arc;
           joins = t.joins;
           some = let f = room-some net amounts path laid.tree last (omega arith) in let e = ap (λ (u : Visit). u.room) is in omega arith;
@@ -68,13 +68,13 @@ module _ (net : Net) (rows : List (List ℕ)) (amounts : List ℤ) (levels place
     all_levels = laid.all_levels;
     all_places = laid.all_places;
     rising = λ j k. elim (cases_eq j (length path)) [
-      | inl e ↦ ap (slice_index levels) (ap (node_at (path ++ visit ∷ [])) e ∙ ap (λ (u : Visit). u.node) (get_or-append_seam path visit [] (record { node = 0; parent = 0; arc = 0; room = 0 }))) ∙ level ∙ sym long ∙ sym e
+      | inl e ↦ ap (slice_index levels) (ap (visited_node (path ++ visit ∷ [])) e ∙ ap (λ (u : Visit). u.node) (get_or-append_seam path visit [] (record { node = 0; parent = 0; arc = 0; room = 0 }))) ∙ level ∙ sym long ∙ sym e
       | inr d ↦ let m : j < length path = omega (arith, length-append path (visit ∷ [])) in ap (slice_index levels) (old j m) ∙ laid.rising j m
     ];
     ahead = λ j k.
         let m : j < length path = omega (arith, length-append path (visit ∷ [])) in
         subst (λ v. slice_index places v < length (row_of rows v)) (sym (old j m)) (elim (cases_eq j last) [
-          | inl e ↦ subst (λ i. slice_index places (node_at path i) < length (row_of rows (node_at path i))) (sym e) on
+          | inl e ↦ subst (λ i. slice_index places (visited_node path i) < length (row_of rows (visited_node path i))) (sym e) on
           | inr d ↦ laid.ahead j (omega arith)
         ]);
   }

@@ -3,16 +3,16 @@
 -- moves the change from a visit's node to its parent's node.
 use Rattle.std.proofs.Common.{◌≡◌, ◌≢◌, ℕ, zero, suc, ◌+◌, ◌≤◌, ◌<◌, ◌^◌, ◌==◌, List, [], ◌∷◌, length, set, replicate, refl, ◌∙◌, arith, eq-eqb, ne_eqb, ℤ, pos, ◌+ℤ◌, ◌-ℤ◌, ◌≤ℤ◌, unsigned_abs, if◌then◌else◌, get_or-set_other, rules}
 use Rattle.std.proofs.lemmas.Int.{ints}
-use Rattle.flow_core.specs.Common.{Arc, Net, IsArc, IsNet, IsBounded, out_by, goes_out, Fits, IsFlow, arc_at, amount_at, Joins, room_from, sent_amount, visit_at, node_at, first_node, last_node, IsVisit, IsTree}
+use Rattle.flow_core.specs.Common.{Arc, Net, IsArc, IsNet, IsBounded, out_by, goes_out, FitsCapacities, IsFlow, arc_at, amount_at, Joins, room_from, sent_amount, visit_at, visited_node, first_node, last_node, IsVisit, IsTree}
 use Rattle.flow_core.specs.declared.search.Visit.{Visit}
 use Rattle.flow_core.proofs.Reading.{IsNet-at}
-use Rattle.flow_core.proofs.Duality.{Fits-at, flow-le-total}
+use Rattle.flow_core.proofs.Duality.{FitsCapacities-at, flow-le-total}
 use Rattle.flow_core.proofs.SearchTrees.{arcs-differ}
 
 -- nothing on each arc fits
-pub Fits-zeros : (arcs : List Arc) → Fits arcs (replicate (length arcs) (pos 0))
-Fits-zeros [] = tt
-Fits-zeros (arc ∷ arcs) = (omega (arith, ints), Fits-zeros arcs)
+pub FitsCapacities-zeros : (arcs : List Arc) → FitsCapacities arcs (replicate (length arcs) (pos 0))
+FitsCapacities-zeros [] = tt
+FitsCapacities-zeros (arc ∷ arcs) = (omega (arith, ints), FitsCapacities-zeros arcs)
 
 -- and nothing goes out of any node
 pub goes_out-zeros : (arcs : List Arc) (v : ℕ) → goes_out arcs (replicate (length arcs) (pos 0)) v ≡ pos 0
@@ -22,20 +22,20 @@ goes_out-zeros (arc ∷ arcs) v = grind (arith, goes_out-zeros arcs v)
 -- nothing on each arc is a flow of value 0
 pub IsFlow-zeros : (net : Net) (source sink : ℕ) → IsFlow net source sink (replicate (length net.arcs) (pos 0)) 0
 IsFlow-zeros net source sink = record {
-  fits = Fits-zeros net.arcs;
+  fits = FitsCapacities-zeros net.arcs;
   kept = λ v w d e. goes_out-zeros net.arcs v;
   gives = goes_out-zeros net.arcs source;
 }
 
 -- one amount is changed
-pub Fits-set : (arcs : List Arc) (amounts : List ℤ) (i : ℕ) (z : ℤ) → Fits arcs amounts → unsigned_abs z ≤ (arc_at arcs i).capacity → Fits arcs (set amounts i z)
-Fits-set [] [] i z f h = tt
-Fits-set [] (y ∷ amounts) i z f h = absurd f
-Fits-set (arc ∷ arcs) [] i z f h = absurd f
-Fits-set (arc ∷ arcs) (y ∷ amounts) zero z f h = (h, f.1)
-Fits-set (arc ∷ arcs) (y ∷ amounts) (suc i) z f h = (f.0, Fits-set arcs amounts i z f.1 h)
+pub FitsCapacities-set : (arcs : List Arc) (amounts : List ℤ) (i : ℕ) (z : ℤ) → FitsCapacities arcs amounts → unsigned_abs z ≤ (arc_at arcs i).capacity → FitsCapacities arcs (set amounts i z)
+FitsCapacities-set [] [] i z f h = tt
+FitsCapacities-set [] (y ∷ amounts) i z f h = absurd f
+FitsCapacities-set (arc ∷ arcs) [] i z f h = absurd f
+FitsCapacities-set (arc ∷ arcs) (y ∷ amounts) zero z f h = (h, f.1)
+FitsCapacities-set (arc ∷ arcs) (y ∷ amounts) (suc i) z f h = (f.0, FitsCapacities-set arcs amounts i z f.1 h)
 
-pub goes_out-set : (arcs : List Arc) (amounts : List ℤ) (i : ℕ) (z : ℤ) (v : ℕ) → Fits arcs amounts → i < length arcs → goes_out arcs (set amounts i z) v +ℤ out_by v (arc_at arcs i) (amount_at amounts i) ≡ goes_out arcs amounts v +ℤ out_by v (arc_at arcs i) z
+pub goes_out-set : (arcs : List Arc) (amounts : List ℤ) (i : ℕ) (z : ℤ) (v : ℕ) → FitsCapacities arcs amounts → i < length arcs → goes_out arcs (set amounts i z) v +ℤ out_by v (arc_at arcs i) (amount_at amounts i) ≡ goes_out arcs amounts v +ℤ out_by v (arc_at arcs i) z
 goes_out-set [] amounts i z v f l = absurd (omega arith)
 goes_out-set (arc ∷ arcs) [] i z v f l = absurd f
 goes_out-set (arc ∷ arcs) (y ∷ amounts) zero z v f l = omega (arith, ints)
@@ -57,10 +57,10 @@ sent_amount-fits arc u amount d f l = grind arith
 -- old amounts
 pub record IsPushed (net : Net) (old amounts : List ℤ) (visits : List Visit) (d at : ℕ) : Type 0 where
   pub long : at < length visits
-  pub fits : Fits net.arcs amounts
+  pub fits : FitsCapacities net.arcs amounts
   pub room : d ≤ (visit_at visits at).room
   pub rest : (j : ℕ) → 0 < j → j ≤ at → amount_at amounts (visit_at visits j).arc ≡ amount_at old (visit_at visits j).arc
-  pub out : (v : ℕ) → goes_out net.arcs amounts v ≡ goes_out net.arcs old v +ℤ (only_at (node_at visits at) d v -ℤ only_at (last_node visits) d v)
+  pub out : (v : ℕ) → goes_out net.arcs amounts v ≡ goes_out net.arcs old v +ℤ (only_at (visited_node visits at) d v -ℤ only_at (last_node visits) d v)
 
 -- one step back
 module _ (net : Net) (is : IsNet net) (old amounts : List ℤ) (visits : List Visit) (tree : IsTree net old visits) (d at : ℕ) (p : IsPushed net old amounts visits d at) (some : 0 < at) where
@@ -84,12 +84,12 @@ module _ (net : Net) (is : IsNet net) (old amounts : List ℤ) (visits : List Vi
 
   -- the new amount is within the capacity
   pub push-fits : unsigned_abs (sent_amount arc from.node (amount_at amounts visit.arc) d) ≤ arc.capacity
-  push-fits = sent_amount-fits arc from.node (amount_at amounts visit.arc) d (Fits-at net.arcs amounts p.fits visit.arc here.step.is_arc) push-within
+  push-fits = sent_amount-fits arc from.node (amount_at amounts visit.arc) d (FitsCapacities-at net.arcs amounts p.fits visit.arc here.step.is_arc) push-within
 
   pub IsPushed-step : IsPushed net old (set amounts visit.arc (sent_amount arc from.node (amount_at amounts visit.arc) d)) visits d visit.parent
   IsPushed-step = record {
     long = let e = here.earlier in let l = p.long in omega arith;
-    fits = Fits-set net.arcs amounts visit.arc (sent_amount arc from.node (amount_at amounts visit.arc) d) p.fits push-fits;
+    fits = FitsCapacities-set net.arcs amounts visit.arc (sent_amount arc from.node (amount_at amounts visit.arc) d) p.fits push-fits;
     room = let r = p.room in let b = here.step.below in omega arith;
     rest = λ j q l. get_or-set_other amounts visit.arc (visit_at visits j).arc (sent_amount arc from.node (amount_at amounts visit.arc) d) (pos 0) (arcs-differ net old visits tree j at q (let e = here.earlier in omega arith) p.long) ∙ p.rest j q (let e = here.earlier in omega arith);
     out = λ v.

@@ -6,8 +6,8 @@ use Rattle.std.specs.Global.{Vec}
 use Rattle.std.proofs.lemmas.Int.{to_z-of_z}
 use Rattle.counting.proofs.Common.{get_or_from_slice_get, get_or-map, length-map, All-head, All-tail, row_of}
 use Rattle.std.proofs.lemmas.List.{map-set}
-use Rattle.flow_core.specs.Common.{Arc, Net, IsArc, IsNet, Fits, arc_at, amount_at, rows_of}
-use Rattle.flow_core.proofs.Duality.{Fits-at}
+use Rattle.flow_core.specs.Common.{Arc, Net, IsArc, IsNet, FitsCapacities, arc_at, amount_at, rows_of}
+use Rattle.flow_core.proofs.Duality.{FitsCapacities-at}
 
 -- an arc of a net in order is in order
 pub IsNet-at : (net : Net) → IsNet net → (i : ℕ) → i < length net.arcs → IsArc net.nodes (arc_at net.arcs i)
@@ -28,5 +28,5 @@ pub amount-read : (amounts : List ℤ) (i : ℕ) (z : ℤ) → SFits w64 z → s
 amount-read amounts i z f e = to_z-of_z w64 z f ∙ sym (get_or_from_slice_get amounts i z (pos 0) e)
 
 -- an arc as the code reads it has the amount that was read within its capacity
-pub amount-fits : (net : Net) (amounts : List ℤ) → Fits net.arcs amounts → (i : ℕ) → i < length net.arcs → (arc : Arc) → arc ≡ arc_at net.arcs i → (z : ℤ) → z ≡ amount_at amounts i → unsigned_abs z ≤ arc.capacity
-amount-fits net amounts f i l arc e z q = subst (λ (a : Arc). unsigned_abs z ≤ a.capacity) (sym e) (subst (λ y. unsigned_abs y ≤ (arc_at net.arcs i).capacity) (sym q) (Fits-at net.arcs amounts f i l))
+pub amount-fits : (net : Net) (amounts : List ℤ) → FitsCapacities net.arcs amounts → (i : ℕ) → i < length net.arcs → (arc : Arc) → arc ≡ arc_at net.arcs i → (z : ℤ) → z ≡ amount_at amounts i → unsigned_abs z ≤ arc.capacity
+amount-fits net amounts f i l arc e z q = subst (λ (a : Arc). unsigned_abs z ≤ a.capacity) (sym e) (subst (λ y. unsigned_abs y ≤ (arc_at net.arcs i).capacity) (sym q) (FitsCapacities-at net.arcs amounts f i l))

@@ -4,9 +4,9 @@
 use Rattle.std.proofs.Common.{◌≡◌, ◌≢◌, ℕ, ◌+◌, ◌≤◌, ◌<◌, ◌==◌, ◌||◌, true, false, List, [], ◌∷◌, ◌++◌, length, get_or, min, refl, sym, ◌∙◌, ap, subst, arith, inl, inr, eq-eqb, ne_eqb, below_more, length-append, ℤ, pos, ◌<ℤ◌, Contains}
 use Rattle.counting.proofs.Common.{or_right, or_left, get_or_read, get_or-append_seam, Within, Set, mem, row_of}
 use Rattle.std.proofs.lemmas.Int.{ints}
-use Rattle.flow_core.specs.Common.{Arc, Net, IsArc, IsNet, arc_at, amount_at, Joins, room_from, HasRoom, IsScanned, HasEnd, IsIncidence, visit_at, node_at, first_node, last_node, IsStep, IsTree, IsSeen, IsSearch}
+use Rattle.flow_core.specs.Common.{Arc, Net, IsArc, IsNet, arc_at, amount_at, Joins, room_from, HasRoom, IsScanned, HasEnd, IsIncidence, visit_at, visited_node, first_node, last_node, IsVisitStep, IsTree, IsSetOfVisited, IsSearch}
 use Rattle.flow_core.specs.declared.search.Visit.{Visit}
-use Rattle.flow_core.proofs.SearchTrees.{IsTree-push, IsSeen-push, unseen-new, visit_at-push, room-some}
+use Rattle.flow_core.proofs.SearchTrees.{IsTree-push, IsSetOfVisited-push, unseen-new, visit_at-push, room-some}
 
 -- arc i has no room out of u, or leads into x
 abbrev pub IsArcScanned : List Arc → List ℤ → Set → ℕ → ℕ → Type 0
@@ -82,7 +82,7 @@ module _ (net : Net) (amounts : List ℤ) (sink head : ℕ) (from : Visit) (row 
   taken-tree : IsTree net amounts longer
   taken-tree = subst (IsTree net amounts) (sym grown) (
       IsTree-push net amounts visits s.search.tree last s.long
-      (subst (λ (u : Visit). IsStep net.arcs amounts u last) (sym s.at_head) (record {
+      (subst (λ (u : Visit). IsVisitStep net.arcs amounts u last) (sym s.at_head) (record {
         is_arc = t.is_arc;
         joins = t.joins;
         some = let f = from_some in omega arith;
@@ -109,7 +109,7 @@ module _ (net : Net) (amounts : List ℤ) (sink head : ℕ) (from : Visit) (row 
   IsScanning-take d = record {
     search = record {
       tree = taken-tree;
-      set = subst (λ (vs : List Visit). IsSeen net vs more) (sym grown) (IsSeen-push net visits seen s.search.set last more node_within new h);
+      set = subst (λ (vs : List Visit). IsSetOfVisited net vs more) (sym grown) (IsSetOfVisited-push net visits seen s.search.set last more node_within new h);
       unseen = h sink ∙ ap (λ b. b || node == sink) s.search.unseen ∙ ne_eqb node sink d;
       scanned = λ j l w r. stays w (s.search.scanned j l w (subst (λ u. HasRoom net.arcs amounts u w) (ap (λ (u : Visit). u.node) (earlier j (let k = s.long in omega arith))) r));
     };
@@ -128,7 +128,7 @@ IsScanning-end net rows amounts sink head from row place visits seen lists is e 
   tree = s.search.tree;
   set = s.search.set;
   unseen = s.search.unseen;
-  scanned = below_more (λ j. IsScanned net.arcs amounts (mem seen) (node_at visits j)) head s.search.scanned (λ w r. here w (subst (λ u. HasRoom net.arcs amounts u w) (ap (λ (u : Visit). u.node) s.at_head) r));
+  scanned = below_more (λ j. IsScanned net.arcs amounts (mem seen) (visited_node visits j)) head s.search.scanned (λ w r. here w (subst (λ u. HasRoom net.arcs amounts u w) (ap (λ (u : Visit). u.node) s.at_head) r));
 }
   where
     listed : (i u w : ℕ) → i < length net.arcs → Joins (arc_at net.arcs i) u w → Contains (row_of rows u) i

@@ -15,15 +15,15 @@ goes_out (arc ∷ arcs) [] v = pos 0
 goes_out (arc ∷ arcs) (amount ∷ amounts) v = out_by v arc amount +ℤ goes_out arcs amounts v
 
 -- one amount for each arc, and none exceeds its arc's capacity in either direction
-abbrev pub Fits : List Arc → List ℤ → Type 0
-Fits [] [] = Unit {0}
-Fits [] (amount ∷ amounts) = ⊥
-Fits (arc ∷ arcs) [] = ⊥
-Fits (arc ∷ arcs) (amount ∷ amounts) = (unsigned_abs amount ≤ arc.capacity) × Fits arcs amounts
+abbrev pub FitsCapacities : List Arc → List ℤ → Type 0
+FitsCapacities [] [] = Unit {0}
+FitsCapacities [] (amount ∷ amounts) = ⊥
+FitsCapacities (arc ∷ arcs) [] = ⊥
+FitsCapacities (arc ∷ arcs) (amount ∷ amounts) = (unsigned_abs amount ≤ arc.capacity) × FitsCapacities arcs amounts
 
 -- a flow from source to sink: amounts, positive from a to b, within the capacities; as much flows
 -- into each other node as out; its value is the amount out of the source less the amount into it
 pub record IsFlow (net : Net) (source sink : ℕ) (amounts : List ℤ) (value : ℕ) : Type 0 where
-  pub fits : Fits net.arcs amounts
+  pub fits : FitsCapacities net.arcs amounts
   pub kept : (v : ℕ) → Within net.nodes v → v ≢ source → v ≢ sink → goes_out net.arcs amounts v ≡ pos 0
   pub gives : goes_out net.arcs amounts source ≡ pos value

@@ -4,7 +4,7 @@
 use Rattle.std.specs.Prelude.{◌≡◌, ℕ, suc, ◌+◌, ◌-◌, ◌*◌, ◌<◌, List, length, slice_index, ℤ}
 use Rattle.counting.specs.Common.{total, row_of}
 use Rattle.flow_core.specs.Nets.{Net}
-use Rattle.flow_core.specs.Search.{node_at, IsTree}
+use Rattle.flow_core.specs.Search.{visited_node, IsTree}
 use Rattle.flow_core.specs.declared.search.Visit.{Visit}
 
 -- a path as a search tree: visit j is at level j, and the row of each node except the last has an
@@ -13,8 +13,8 @@ pub record IsLaid (net : Net) (rows : List (List ℕ)) (amounts : List ℤ) (lev
   pub tree : IsTree net amounts path
   pub all_levels : length levels ≡ suc net.nodes
   pub all_places : length places ≡ suc net.nodes
-  pub rising : (j : ℕ) → j < length path → slice_index levels (node_at path j) ≡ j
-  pub ahead : (j : ℕ) → suc j < length path → slice_index places (node_at path j) < length (row_of rows (node_at path j))
+  pub rising : (j : ℕ) → j < length path → slice_index levels (visited_node path j) ≡ j
+  pub ahead : (j : ℕ) → suc j < length path → slice_index places (visited_node path j) < length (row_of rows (visited_node path j))
 
 -- how many arcs are left in the rows
 abbrev pub arcs_left : ℕ → List (List ℕ) → List ℕ → ℕ

@@ -44,8 +44,8 @@ abbrev pub leaves_set : Set → Arc → Bool
 leaves_set x arc = (x arc.a && not (x arc.b)) || (not (x arc.a) && x arc.b)
 
 -- the value of x: the sum of the capacities of the arcs with exactly one node in x
-abbrev pub value_of : Net → Set → ℕ
-value_of net x = sum_by (λ (arc : Arc). cond (leaves_set x arc) arc.capacity 0) net.arcs
+abbrev pub cut_value : Net → Set → ℕ
+cut_value net x = sum_by (λ (arc : Arc). cond (leaves_set x arc) arc.capacity 0) net.arcs
 
 -- x contains the source but not the sink
 pub record Separates (source sink : ℕ) (x : Set) : Type 0 where
@@ -56,13 +56,13 @@ pub record Separates (source sink : ℕ) (x : Set) : Type 0 where
 pub record HasCutWithin (net : Net) (source sink above : ℕ) : Type 0 where
   pub set : Set
   pub separates : Separates source sink set
-  pub within : value_of net set ≤ above
+  pub within : cut_value net set ≤ above
 
 -- the least minimum cut: its value is minimum among all sets with the source but not the sink, and
 -- it lies inside each other such set of that value
 pub record IsLeastCut (net : Net) (source sink : ℕ) (set : List ℕ) (value : ℕ) : Type 0 where
   pub nodes : IsRisingIn net.nodes set
   pub separates : Separates source sink (mem set)
-  pub is : value_of net (mem set) ≡ value
-  pub least : (x : Set) → Separates source sink x → value ≤ value_of net x
-  pub inside : (x : Set) → Separates source sink x → value_of net x ≡ value → (v : ℕ) → mem set v ≡ true → x v ≡ true
+  pub is : cut_value net (mem set) ≡ value
+  pub least : (x : Set) → Separates source sink x → value ≤ cut_value net x
+  pub inside : (x : Set) → Separates source sink x → cut_value net x ≡ value → (v : ℕ) → mem set v ≡ true → x v ≡ true

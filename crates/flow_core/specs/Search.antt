@@ -11,12 +11,12 @@ abbrev pub visit_at : List Visit → ℕ → Visit
 visit_at visits j = slice_index_or visits j (record { node = 0; parent = 0; arc = 0; room = 0 })
 
 -- the node of visit j
-abbrev pub node_at : List Visit → ℕ → ℕ
-node_at visits j = (visit_at visits j).node
+abbrev pub visited_node : List Visit → ℕ → ℕ
+visited_node visits j = (visit_at visits j).node
 
 -- the visit comes from another over a residual arc; its own amount can be sent all the way from the
 -- first visit
-pub record IsStep (arcs : List Arc) (amounts : List ℤ) (from visit : Visit) : Type 0 where
+pub record IsVisitStep (arcs : List Arc) (amounts : List ℤ) (from visit : Visit) : Type 0 where
   pub is_arc : visit.arc < length arcs
   pub joins : Joins (arc_at arcs visit.arc) from.node visit.node
   pub some : 0 < visit.room
@@ -26,7 +26,7 @@ pub record IsStep (arcs : List Arc) (amounts : List ℤ) (from visit : Visit) : 
 -- visit j comes from an earlier one
 pub record IsVisit (arcs : List Arc) (amounts : List ℤ) (visits : List Visit) (j : ℕ) : Type 0 where
   pub earlier : (visit_at visits j).parent < j
-  pub step : IsStep arcs amounts (visit_at visits (visit_at visits j).parent) (visit_at visits j)
+  pub step : IsVisitStep arcs amounts (visit_at visits (visit_at visits j).parent) (visit_at visits j)
 
 -- a search tree: its first visit is the root, each other comes from an earlier one, and no node
 -- is visited twice
@@ -34,8 +34,8 @@ pub record IsTree (net : Net) (amounts : List ℤ) (visits : List Visit) : Type 
   pub some : 0 < length visits
   pub root : (visit_at visits 0).room ≡ 2 ^ 63 - 1
   pub each : (j : ℕ) → 0 < j → j < length visits → IsVisit net.arcs amounts visits j
-  pub nodes : (j : ℕ) → j < length visits → Within net.nodes (node_at visits j)
-  pub distinct : (i j : ℕ) → i < j → j < length visits → node_at visits i ≢ node_at visits j
+  pub nodes : (j : ℕ) → j < length visits → Within net.nodes (visited_node visits j)
+  pub distinct : (i j : ℕ) → i < j → j < length visits → visited_node visits i ≢ visited_node visits j
 
 -- a search tree for some amounts
 pub record HasTree (net : Net) (visits : List Visit) : Type 0 where
@@ -43,22 +43,22 @@ pub record HasTree (net : Net) (visits : List Visit) : Type 0 where
   pub tree : IsTree net amounts visits
 
 -- the set of the visited nodes
-pub record IsSeen (net : Net) (visits : List Visit) (seen : List ℕ) : Type 0 where
-  pub all_seen : (j : ℕ) → j < length visits → mem seen (node_at visits j) ≡ true
-  pub seen_only : (v : ℕ) → mem seen v ≡ true → (j : ℕ) × (j < length visits) × (node_at visits j ≡ v)
+pub record IsSetOfVisited (net : Net) (visits : List Visit) (seen : List ℕ) : Type 0 where
+  pub all_seen : (j : ℕ) → j < length visits → mem seen (visited_node visits j) ≡ true
+  pub seen_only : (v : ℕ) → mem seen v ≡ true → (j : ℕ) × (j < length visits) × (visited_node visits j ≡ v)
   pub size : length visits ≡ count net.nodes (mem seen)
 
 -- the node of the first visit
 abbrev pub first_node : List Visit → ℕ
-first_node visits = node_at visits 0
+first_node visits = visited_node visits 0
 
 -- the node of the last visit
 abbrev pub last_node : List Visit → ℕ
-last_node visits = node_at visits (length visits - 1)
+last_node visits = visited_node visits (length visits - 1)
 
 -- a search that has scanned the arcs at its first visits and has not seen the sink
 pub record IsSearch (net : Net) (amounts : List ℤ) (sink head : ℕ) (visits : List Visit) (seen : List ℕ) : Type 0 where
   pub tree : IsTree net amounts visits
-  pub set : IsSeen net visits seen
+  pub set : IsSetOfVisited net visits seen
   pub unseen : mem seen sink ≡ false
-  pub scanned : (j : ℕ) → j < head → IsScanned net.arcs amounts (mem seen) (node_at visits j)
+  pub scanned : (j : ℕ) → j < head → IsScanned net.arcs amounts (mem seen) (visited_node visits j)

@@ -1,6 +1,6 @@
 //! All shortest paths after one search: paths from each node to one of the next level.
 ghost use Rattle.std.specs.Prelude.{◌≡◌, ◌≢◌, ℕ, suc, ◌≤◌, ◌<◌, ◌+◌, ◌-◌, length, IfOk, OnOk, IsTrue, List, ℤ, slice_index, slice_set, take};
-ghost use Rattle.flow_core.specs.Common.{IsBounded, Fits, IsFlow, IsIncidence, first_node, last_node, node_at, IsTree, HasTree, IsLaid, work_left};
+ghost use Rattle.flow_core.specs.Common.{IsBounded, FitsCapacities, IsFlow, IsIncidence, first_node, last_node, visited_node, IsTree, HasTree, IsLaid, work_left};
 ghost use Rattle.counting.specs.Common.{row_of};
 
 use crate::flow::Flow;
@@ -65,13 +65,13 @@ impl Layers {
         requires last { length self.old.path.items ≡ last + 1 }
         requires some { 0 < last }
         requires place { slice_index self.old.places.items
-            (node_at self.old.path.items (last - 1)) <
-            length (row_of incidence.now (node_at self.old.path.items (last - 1))) }
-        requires row { node_at self.old.path.items (last - 1) < length incidence.now }
+            (visited_node self.old.path.items (last - 1)) <
+            length (row_of incidence.now (visited_node self.old.path.items (last - 1))) }
+        requires row { visited_node self.old.path.items (last - 1) < length incidence.now }
         requires all { length self.old.places.items ≡ length incidence.now }
         ensures path { self.new.path.items ≡ take last self.old.path.items }
         ensures levels { self.new.levels.items ≡ self.old.levels.items }
-        ensures places { let v = node_at self.old.path.items (last - 1) in self.new.places.items ≡
+        ensures places { let v = visited_node self.old.path.items (last - 1) in self.new.places.items ≡
             slice_set self.old.places.items v (slice_index self.old.places.items v + 1) }
     {
         self.path.truncate(last);
@@ -92,7 +92,7 @@ impl Layers {
         amounts: &SignedList,
     ) -> Result<bool, Memory>
         requires bounded { IsBounded net.now }
-        requires fits { Fits net.now.arcs amounts.now }
+        requires fits { FitsCapacities net.now.arcs amounts.now }
         requires incidence { IsIncidence net.now incidence.now }
         requires laid { IsLaid net.now incidence.now amounts.now self.old.levels.items
             self.old.places.items self.old.path.items }

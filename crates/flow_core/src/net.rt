@@ -2,7 +2,7 @@
 ghost use Rattle.std.specs.Prelude.{◌≡◌, ◌≢◌, ◌+◌, ◌≤◌, ◌<◌, ◌≤ℤ◌, ◌^◌, [], IfOk, OnOk, OnErr, length, pos};
 ghost use Rattle.counting.specs.Common.{Within};
 ghost use Rattle.flow_core.specs.Nets.{IsBounded, with_arc, total_capacity};
-ghost use Rattle.flow_core.specs.Flows.{Fits};
+ghost use Rattle.flow_core.specs.Flows.{FitsCapacities};
 ghost use Rattle.flow_core.specs.Incidence.{HasEnd};
 ghost use Rattle.flow_core.specs.Residual.{Joins, amount_at, arc_at, room_from, sent_amount};
 ghost use Rattle.flow_core.specs.View.{arc_of};
@@ -110,7 +110,7 @@ impl Net {
     /// The residual capacity of arc `i` out of the node, one of its ends, with these amounts.
     pub(crate) fn room_over(&self, amounts: &SignedList, node: u32, i: usize) -> u64
         requires bounded { IsBounded self.now }
-        requires fits { Fits self.now.arcs amounts.now }
+        requires fits { FitsCapacities self.now.arcs amounts.now }
         requires arc { i < length self.now.arcs }
         ensures { pos result ≡ room_from node (arc_at self.now.arcs i) (amount_at amounts.now i) }
     {
@@ -120,7 +120,7 @@ impl Net {
     /// The amount on arc `i` after `more` is sent over it out of the node, one of its ends.
     pub(crate) fn sent_over(&self, amounts: &SignedList, node: u32, i: usize, more: u64) -> i64
         requires bounded { IsBounded self.now }
-        requires fits { Fits self.now.arcs amounts.now }
+        requires fits { FitsCapacities self.now.arcs amounts.now }
         requires arc { i < length self.now.arcs }
         requires room { pos more ≤ℤ
             room_from node (arc_at self.now.arcs i) (amount_at amounts.now i) }

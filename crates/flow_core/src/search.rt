@@ -1,7 +1,7 @@
 //! Breadth-first search for a shortest path over arcs with residual capacity.
 ghost use Rattle.std.specs.Prelude.{◌≡◌, ℕ, ◌+◌, ◌<◌, ◌≢◌, ◌||◌, ◌==◌, [], ◌∷◌, ◌++◌, length, IfOk, OnOk, MatchBool, ℤ, List};
 ghost use Rattle.counting.specs.Common.{Within, mem};
-ghost use Rattle.flow_core.specs.Common.{IsBounded, Fits, IsIncidence, first_node, last_node, IsTree, IsSeen, IsSearch, IsOutcome};
+ghost use Rattle.flow_core.specs.Common.{IsBounded, FitsCapacities, IsIncidence, first_node, last_node, IsTree, IsSetOfVisited, IsSearch, IsOutcome};
 
 use crate::incidence::Incidence;
 use crate::net::Net;
@@ -41,7 +41,7 @@ impl Reached {
         requires source { Within net.now.nodes source }
         ensures tree { IfOk result
             (λ reached. (amounts : List ℤ) → IsTree net.now amounts reached.visits.items) }
-        ensures seen { IfOk result (λ reached. IsSeen net.now reached.visits.items reached.seen) }
+        ensures seen { IfOk result (λ reached. IsSetOfVisited net.now reached.visits.items reached.seen) }
         ensures source { IfOk result (λ reached. first_node reached.visits.items ≡ source) }
         ensures only { IfOk result (λ reached. (v : ℕ) → mem reached.seen v ≡ (source == v)) }
     {
@@ -82,7 +82,7 @@ fn scan(
     reached: &mut Reached,
 ) -> Result<bool, Memory>
     requires bounded { IsBounded net.now }
-    requires fits { Fits net.now.arcs amounts.now }
+    requires fits { FitsCapacities net.now.arcs amounts.now }
     requires incidence { IsIncidence net.now incidence.now }
     requires search { IsSearch net.now amounts.now sink head reached.old.visits.items
         reached.old.seen }
@@ -127,7 +127,7 @@ pub fn search(
     sink: u32,
 ) -> Result<SearchOutcome, Memory>
     requires bounded { IsBounded net.now }
-    requires fits { Fits net.now.arcs amounts.now }
+    requires fits { FitsCapacities net.now.arcs amounts.now }
     requires incidence { IsIncidence net.now incidence.now }
     requires source { Within net.now.nodes source }
     requires differ { source ≢ sink }

@@ -11,7 +11,7 @@ use Rattle.std.proofs.lemmas.Str.Parse.{IsDigitsTest, IsNumeralModel, digits_val
 use Rattle.line_text.specs.Common.{is_number, number_of, value_of}
 use Rattle.decomposer.specs.Common.{order_named}
 use Rattle.bench_tasks.specs.Common.{command_of}
-use Rattle.command_table.specs.Rows.{is_listed, is_number_in, is_one_of}
+use Rattle.command_table.specs.Rows.{matches_a_row, is_number_in, is_one_of}
 use Rattle.command_table.specs.Table.{orders, rows}
 
 tells_digits : IsDigitsTest (λ ds. list_all is_ascii_digit ds ≡ true)
@@ -58,7 +58,7 @@ seed_is word = grind (arith, nat_tests, value-below word)
 apart : (word : List ℕ) → bytes_eq word (codes "grow") ≡ true → bytes_eq word (codes "decompose") ≡ false
 apart word is = ap (λ w. bytes_eq w (codes "decompose")) ((bytes_eq-Decides word (codes "grow")).0 is)
 
-pub listed : (words : List (List ℕ)) → is_some (command_of words) ≡ is_listed rows words
+pub listed : (words : List (List ℕ)) → is_some (command_of words) ≡ matches_a_row rows words
 unfolding rows
 listed [] = refl
 listed (w ∷ []) = refl

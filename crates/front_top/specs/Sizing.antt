@@ -2,7 +2,7 @@
 -- Stated by: front_top.
 use Rattle.std.specs.Prelude.{◌≡◌, ℕ, List, Option, None, Some, Result, Ok, Err}
 use Rattle.std.specs.Global.{Vec}
-use Rattle.outside.specs.Common.{Answer, answer_of}
+use Rattle.outside.specs.Common.{Answer, answer_seen}
 use Rattle.outside.specs.declared.shelf.ShelfFault.{ShelfFault}
 use Rattle.front_words.specs.Headers.{header_sizes}
 
@@ -15,7 +15,7 @@ sizes_after None (Err fault) = None
 
 -- the same for what the code returns
 abbrev pub sizes_kept : (kept : Option (ℕ × ℕ)) → Result (Vec ℕ) ShelfFault → Option (ℕ × ℕ)
-sizes_kept kept answer = sizes_after kept (answer_of answer)
+sizes_kept kept answer = sizes_after kept (answer_seen answer)
 
 -- a read of that name leads from the first shelf to the second, and from these kept numbers to those
 pub record SizesRead {S : Type 0} (reads : S → List ℕ → Answer → S → Type 0) (before : S) (name : List ℕ) (answer : Answer) (now : S) (kept_before kept : Option (ℕ × ℕ)) : Type 0 where

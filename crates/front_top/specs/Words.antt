@@ -32,15 +32,15 @@ pub record Known : Type 0 where
   pub is_abandoned : Bool
 
 -- the line with that number of the file that was read last, if it is kept
-abbrev pub line_kept : Option (List ℕ) → ℕ → Option (List ℕ)
-line_kept None line = None
-line_kept (Some text) line = line_at text line
+abbrev pub kept_file_line : Option (List ℕ) → ℕ → Option (List ℕ)
+kept_file_line None line = None
+kept_file_line (Some text) line = line_at text line
 
 -- of a bad file: which it is, where it is outside its format and how, and the line
 abbrev pub bad_words : Option File → (line : ℕ) → FaultKind → (kept : Option (List ℕ)) → (sizes : Option (ℕ × ℕ)) → List ℕ
 bad_words None line kind kept sizes = []
 bad_words (Some file) line kind kept sizes =
-    bad_file_text program (record { name = file.0; file_kind = file.1; line = line; kind = kind; beginning = kept; sizes = sizes; text = line_kept kept line })
+    bad_file_text program (record { name = file.0; file_kind = file.1; line = line; kind = kind; beginning = kept; sizes = sizes; text = kept_file_line kept line })
 
 -- of a file that could not be read: which it is, and why
 abbrev pub unread_words : Option File → Option FailureReason → List ℕ
@@ -65,18 +65,18 @@ lost_words = codes "mcg: the output could not be written whole\n"
 
 -- what is said of a run of these words that ended with this status, this stop and this refusal;
 -- nothing if it is done, and nothing if nobody reads the output any more
-abbrev pub words_of : (words : List (List ℕ)) → Status → Option Stop → Option Refusal → Known → List ℕ
-words_of words Done stopped refused known = []
-words_of words Negative stopped refused known = refusal_words refused
-words_of words Usage stopped refused known = unmatched_text Mcg words
-words_of words ReadFault stopped refused known = stop_words (command_of words) stopped known
-words_of words BadInput stopped refused known = stop_words (command_of words) stopped known
-words_of words WriteFault stopped refused known = if known.is_abandoned then [] else lost_words
-words_of words Memory stopped refused known = codes "mcg: memory ran out; nothing was written\n"
+abbrev pub run_words : (words : List (List ℕ)) → Status → Option Stop → Option Refusal → Known → List ℕ
+run_words words Done stopped refused known = []
+run_words words Negative stopped refused known = refusal_words refused
+run_words words Usage stopped refused known = unmatched_text Mcg words
+run_words words ReadFault stopped refused known = stop_words (command_of words) stopped known
+run_words words BadInput stopped refused known = stop_words (command_of words) stopped known
+run_words words WriteFault stopped refused known = if known.is_abandoned then [] else lost_words
+run_words words Memory stopped refused known = codes "mcg: memory ran out; nothing was written\n"
 
 -- what is said of a run of these words: of an answer that could not be written whole, or of this
 -- ending
 abbrev pub message_words : (words : List (List ℕ)) → Message → Known → List ℕ
 message_words words message.Nothing known = []
 message_words words message.Lost known = lost_words
-message_words words (message.Ending ending) known = words_of words ending.status ending.stop ending.refusal known
+message_words words (message.Ending ending) known = run_words words ending.status ending.stop ending.refusal known

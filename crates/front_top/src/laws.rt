@@ -1,11 +1,11 @@
 //! The law of the table of commands. It is the contract of a function that does nothing.
 ghost use Rattle.std.specs.Prelude.{◌≡◌, ℕ, List, is_some};
 ghost use Rattle.bench_tasks.specs.Common.{command_of};
-ghost use Rattle.command_table.specs.Rows.{is_listed};
+ghost use Rattle.command_table.specs.Rows.{matches_a_row};
 ghost use Rattle.command_table.specs.Table.{rows};
 
 /// The rows of the table, of which the usage is made, are exactly the words that some command
 /// matches.
 pub fn table_law()
-    ensures { (words : List (List ℕ)) → is_some (command_of words) ≡ is_listed rows words }
+    ensures { (words : List (List ℕ)) → is_some (command_of words) ≡ matches_a_row rows words }
 {}

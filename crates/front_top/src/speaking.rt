@@ -5,7 +5,7 @@ ghost use Rattle.bench_tasks.specs.Common.{asked, file_seen};
 ghost use Rattle.front_words.specs.Saying.{Says};
 ghost use Rattle.front_top.specs.CluesSeen.{known_by};
 ghost use Rattle.front_top.specs.Files.{file_in};
-ghost use Rattle.front_top.specs.Words.{bad_words, line_kept, lost_words, refusal_words, stop_words, unread_words, words_of};
+ghost use Rattle.front_top.specs.Words.{bad_words, kept_file_line, lost_words, refusal_words, stop_words, unread_words, run_words};
 
 use bench_tasks::{Command, CommandFile, Stop, command_of, file_at};
 use bench_top::{RunEnding, Status};
@@ -43,7 +43,7 @@ fn say_nothing<E: Sink>(_errors: &mut E) -> Said
 // The line with that number of the file that was read last, if it is kept.
 fn line_kept<'a>(kept: Option<&'a [u8]>, line: u32) -> Option<&'a [u8]>
     ensures { option_map (λ text. text.now) result ≡
-        line_kept (option_map (λ text. text.now) kept.entry) line }
+        kept_file_line (option_map (λ text. text.now) kept.entry) line }
 {
     match kept {
         Some(text) => line_at(text, line),
@@ -154,7 +154,7 @@ pub fn say_ending<'a, E: Sink>(
     clues: Clues<'a>,
 ) -> Said
     ensures { Says E.written E.writes E.faults
-        (words_of (map string_bytes words.now) ending.status ending.stop ending.refusal
+        (run_words (map string_bytes words.now) ending.status ending.stop ending.refusal
         (known_by clues.entry)) result errors.old errors.new }
 {
     match ending.status {

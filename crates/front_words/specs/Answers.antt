@@ -3,7 +3,7 @@
 use Rattle.std.specs.Prelude.{◌≡◌, ◌⊎◌, ℕ, ◌||◌, List, [], ◌∷◌, Bool, true, false, codes, if◌then◌else◌, Option, Some, None, bytes_eq}
 use Rattle.outside.specs.Common.{Rose, appended}
 use Rattle.front_words.specs.Saying.{IsBegun, WritesUntilFault, WritesWhole}
-use Rattle.front_words.specs.Programs.{command_page, usage_of, version_of}
+use Rattle.front_words.specs.Programs.{command_page, program_usage, version_of}
 use Rattle.front_words.specs.declared.programs.Program.{Program}
 
 -- the word asks for help
@@ -13,7 +13,7 @@ is_help word = bytes_eq word (codes "--help") || (bytes_eq word (codes "-h") || 
 -- what one word is answered: the usage, or the version
 abbrev pub word_answer : Program → List ℕ → Option (List ℕ)
 word_answer program word =
-    if is_help word then Some (usage_of program) else
+    if is_help word then Some (program_usage program) else
     if bytes_eq word (codes "--version") then Some (version_of program) else None
 
 -- what two words are answered: the page of a command, after a word that asks for help or before

@@ -2,7 +2,7 @@
 -- Stated by: front_words. Used by: front_top.
 use Rattle.std.specs.Prelude.{ℕ, ◌+◌, ◌==◌, ◌||◌, List, [], ◌∷◌, fold, length, nat_le, codes, if◌then◌else◌, bytes_eq, Option, None, Some}
 use Rattle.line_text.specs.Common.{lines_of}
-use Rattle.front_words.specs.Numbers.{number_in, pieces_of}
+use Rattle.front_words.specs.Numbers.{number_written, pieces_of}
 
 -- what is known of a line after some of its words: how many they are, where 4 stands for 4 or more
 -- and 5 for a line whose first word is not `p`; and the numbers that the third and the fourth word
@@ -15,8 +15,8 @@ abbrev pub with_word : HeaderSoFar → (word : List ℕ) → HeaderSoFar
 with_word so_far word =
     if length word == 0 then so_far else
     if nat_le 4 so_far.0 then so_far else
-    if so_far.0 == 3 then (4, so_far.1, number_in word) else
-    if so_far.0 == 2 then (3, number_in word, so_far.2) else
+    if so_far.0 == 3 then (4, so_far.1, number_written word) else
+    if so_far.0 == 2 then (3, number_written word, so_far.2) else
     if so_far.0 == 1 || bytes_eq word (codes "p") then (so_far.0 + 1, so_far.1, so_far.2) else (5, so_far.1, so_far.2)
 
 -- a header

@@ -62,8 +62,8 @@ abbrev pub list_joint : (text : List ℕ) → List ℕ
 list_joint text = if is_blank_line text then codes " " else codes ": "
 
 -- what is wrong with the line: it is empty, or has a fault of that kind
-abbrev pub list_words : FaultKind → (text : List ℕ) → List ℕ
-list_words kind text = if is_blank_line text then empty_words else list_fault kind text
+abbrev pub bad_line_words : FaultKind → (text : List ℕ) → List ℕ
+bad_line_words kind text = if is_blank_line text then empty_words else list_fault kind text
 
 -- the line of a text, without its line feed, unless nothing is in it
 abbrev pub line_kept : (text : List ℕ) → Option (List ℕ)
@@ -73,4 +73,4 @@ line_kept text = some_line (line_at text 1)
 -- it was kept
 abbrev pub bad_line_text : (program : List ℕ) (number : ℕ) (kind : FaultKind) (text : List ℕ) → List ℕ
 bad_line_text program number kind text =
-    program ++ (codes ": line " ++ (decimal number ++ (list_joint text ++ (list_words kind text ++ (opening_note text ++ (codes "\n" ++ line_shown program number (line_kept text)))))))
+    program ++ (codes ": line " ++ (decimal number ++ (list_joint text ++ (bad_line_words kind text ++ (opening_note text ++ (codes "\n" ++ line_shown program number (line_kept text)))))))

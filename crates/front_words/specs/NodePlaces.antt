@@ -22,14 +22,14 @@ abbrev pub path_text : (depth : ℕ) (merged : List ℕ) → List ℕ
 path_text depth merged = if depth == 0 then codes "." else letters_text merged 1 depth
 
 -- each number with one blank before it
-abbrev pub numbers_text : List ℕ → List ℕ
-numbers_text [] = []
-numbers_text (number ∷ numbers) = (codes " " ++ decimal number) ++ numbers_text numbers
+abbrev pub spaced_numbers : List ℕ → List ℕ
+spaced_numbers [] = []
+spaced_numbers (number ∷ numbers) = (codes " " ++ decimal number) ++ spaced_numbers numbers
 
 -- the shore at a node, if the node is no leaf
 abbrev pub shore_text : Option (List ℕ) → List ℕ
 shore_text None = []
-shore_text (Some shore) = codes ", shore" ++ numbers_text shore
+shore_text (Some shore) = codes ", shore" ++ spaced_numbers shore
 
 -- the path to a node, and its shore
 abbrev pub known_place_text : NodePlace → List ℕ

@@ -14,14 +14,14 @@ name_of Mcg = codes "mcg"
 name_of Mcg6 = codes "mcg6"
 
 -- the rows of its table
-abbrev pub rows_of : Program → List Row
-rows_of Mcg = rows
-rows_of Mcg6 = list_rows
+abbrev pub program_rows : Program → List Row
+program_rows Mcg = rows
+program_rows Mcg6 = list_rows
 
 -- its usage
-abbrev pub usage_of : Program → List ℕ
-usage_of Mcg = usage_text
-usage_of Mcg6 = list_usage_text
+abbrev pub program_usage : Program → List ℕ
+program_usage Mcg = usage_text
+program_usage Mcg6 = list_usage_text
 
 -- its version
 abbrev pub version_of : Program → List ℕ

@@ -5,8 +5,8 @@ use Rattle.refusals.specs.declared.faults.StuckFault.{StuckFault}
 use Rattle.refusals.specs.declared.faults.StuckFault.TheVariants.{NoCut, Crossing, NotParts}
 use Rattle.refusals.specs.declared.refusal.Refusal.{Refusal}
 use Rattle.refusals.specs.declared.refusal.Refusal.TheVariants.{Graph, Tree, Ears, Stuck, Move}
-use Rattle.front_words.specs.RefusedEars.{ears_text}
-use Rattle.front_words.specs.RefusedTrees.{moved_text, tree_text}
+use Rattle.front_words.specs.RefusedEars.{refused_ears_text}
+use Rattle.front_words.specs.RefusedTrees.{moved_text, refused_tree_text}
 use Rattle.front_words.specs.Uncovered.{uncovered_text}
 
 -- why a move has no result, and what would be right
@@ -16,14 +16,14 @@ stuck_words Crossing = codes "the shore of its cut crosses that of the cut above
 stuck_words NotParts = codes "its sets must be nonempty proper subsets of the shore and of its complement"
 
 -- a move has no result
-abbrev pub stuck_text : (program : List ℕ) (step : ℕ) → StuckFault → List ℕ
-stuck_text program step fault =
+abbrev pub stuck_move_text : (program : List ℕ) (step : ℕ) → StuckFault → List ℕ
+stuck_move_text program step fault =
     program ++ (codes ": move " ++ (decimal step ++ (codes " has no result: " ++ (stuck_words fault ++ codes "\n"))))
 
 -- what a refusal means in words
 abbrev pub refused_text : (program : List ℕ) → Refusal → List ℕ
 refused_text program (Graph fault) = uncovered_text program fault
-refused_text program (Tree tree at place fault) = tree_text program tree at place fault
-refused_text program (Ears step place fault) = ears_text program step place fault
-refused_text program (Stuck step fault) = stuck_text program step fault
+refused_text program (Tree tree at place fault) = refused_tree_text program tree at place fault
+refused_text program (Ears step place fault) = refused_ears_text program step place fault
+refused_text program (Stuck step fault) = stuck_move_text program step fault
 refused_text program (Move step at place fault) = moved_text program step at place fault

@@ -1,15 +1,15 @@
 -- The other shore of a cut, from the line that names one.
 -- Stated by: front_words.
 use Rattle.std.specs.Prelude.{ℕ, zero, suc, ◌+◌, ◌-◌, ◌==◌, ◌||◌, ◌&&◌, not, List, [], ◌++◌, Bool, false, true, fold, length, nat_le, nat_lt, codes, if◌then◌else◌, decimal, bytes_eq, Option, None, Some}
-use Rattle.front_words.specs.Numbers.{number_in, pieces_of}
+use Rattle.front_words.specs.Numbers.{number_written, pieces_of}
 
 -- one of the words of the line is the number of that vertex
 unfoldable pub names : (line : List ℕ) → (vertex : ℕ) → Bool
-names line vertex = fold (λ found word. found || number_in word == vertex) false (pieces_of line)
+names line vertex = fold (λ found word. found || number_written word == vertex) false (pieces_of line)
 
 -- the word is `cut` or the number of a vertex, or it is empty
 abbrev pub is_cut_word : List ℕ → Bool
-is_cut_word word = length word == 0 || (bytes_eq word (codes "cut") || (nat_le 1 (number_in word) && nat_le (number_in word) 128))
+is_cut_word word = length word == 0 || (bytes_eq word (codes "cut") || (nat_le 1 (number_written word) && nat_le (number_written word) 128))
 
 -- each word of the line is `cut` or the number of a vertex
 unfoldable pub is_cut : (line : List ℕ) → Bool

@@ -5,7 +5,7 @@ use Rattle.command_table.specs.Pages.{command_lines}
 use Rattle.command_table.specs.Reasons.{Reason, Unknown, TooMany, TooFew, Wrong, why_unmatched}
 use Rattle.command_table.specs.Rows.{word_meaning, word_need}
 use Rattle.front_words.specs.Answers.{is_help}
-use Rattle.front_words.specs.Programs.{name_of, rows_of, usage_of}
+use Rattle.front_words.specs.Programs.{name_of, program_rows, program_usage}
 use Rattle.front_words.specs.Showing.{shown}
 use Rattle.front_words.specs.declared.programs.Program.{Program}
 
@@ -19,13 +19,13 @@ some_reason_text program command (TooFew missing) =
 some_reason_text program command (Wrong wanted) = program ++ (codes ": " ++ (word_meaning wanted ++ codes "\n"))
 
 -- why the words match no row; nothing if they match one
-abbrev pub reason_text : (program command : List ℕ) → Option Reason → List ℕ
-reason_text program command None = []
-reason_text program command (Some reason) = some_reason_text program command reason
+abbrev pub mismatch_text : (program command : List ℕ) → Option Reason → List ℕ
+mismatch_text program command None = []
+mismatch_text program command (Some reason) = some_reason_text program command reason
 
 -- the same, and the lines of the command
 abbrev pub misuse_text : Program → (command : List ℕ) → (words : List (List ℕ)) → List ℕ
-misuse_text program command words = reason_text (name_of program) command (why_unmatched (rows_of program) words) ++ command_lines command (rows_of program)
+misuse_text program command words = mismatch_text (name_of program) command (why_unmatched (program_rows program) words) ++ command_lines command (program_rows program)
 
 -- the command that is meant: the first word, or the one behind `help`
 abbrev pub meant : List (List ℕ) → Option (List ℕ)
@@ -36,7 +36,7 @@ meant (word ∷ next ∷ third ∷ words) = Some word
 
 -- the same where it is this one, if it is any
 abbrev pub meant_text : Program → (words : List (List ℕ)) → Option (List ℕ) → List ℕ
-meant_text program words None = usage_of program
+meant_text program words None = program_usage program
 meant_text program words (Some command) = misuse_text program command words
 
 -- the word that asks for help on more than one command, if one does

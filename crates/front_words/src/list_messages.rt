@@ -1,7 +1,7 @@
 //! The messages on lists of graphs.
 ghost use Rattle.std.specs.Prelude.{◌≡◌, None};
 ghost use Rattle.std.specs.Option.{option_map};
-ghost use Rattle.front_words.specs.ListMessages.{bad_line_text, is_blank_line, line_kept, list_dash_note, list_fault, list_joint, list_words, long_line, short_line, unread_list_text};
+ghost use Rattle.front_words.specs.ListMessages.{bad_line_text, is_blank_line, line_kept, list_dash_note, list_fault, list_joint, bad_line_words, long_line, short_line, unread_list_text};
 ghost use Rattle.front_words.specs.Saying.{Says};
 
 use crate::empty_lines::EMPTY;
@@ -117,7 +117,7 @@ fn list_joint(text: &[u8]) -> &'static str
 
 // What is wrong with the line: it is empty, or has a fault of that kind.
 fn list_words(kind: FaultKind, text: &[u8]) -> &'static str
-    ensures { result.now ≡ list_words kind text.now }
+    ensures { result.now ≡ bad_line_words kind text.now }
 {
     if is_blank_line(text) {
         EMPTY

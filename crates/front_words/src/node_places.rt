@@ -1,6 +1,6 @@
 //! Where a node of a tree of cuts is.
 ghost use Rattle.std.specs.Prelude.{◌≡◌};
-ghost use Rattle.front_words.specs.NodePlaces.{is_merged, known_place_text, letters_text, numbers_text, path_text, place_text, shore_text, step_letter};
+ghost use Rattle.front_words.specs.NodePlaces.{is_merged, known_place_text, letters_text, spaced_numbers, path_text, place_text, shore_text, step_letter};
 ghost use Rattle.front_words.specs.Saying.{Says};
 
 use crate::pieces::MessagePiece::{Number, Text};
@@ -48,7 +48,7 @@ fn say_path<K: Sink>(sink: &mut K, merged: VSet, depth: u32) -> Said
 
 // Says each number of a set with one blank before it.
 fn say_numbers<K: Sink>(sink: &mut K, set: VSet) -> Said
-    ensures { Says K.written K.writes K.faults (numbers_text set) result sink.old sink.new }
+    ensures { Says K.written K.writes K.faults (spaced_numbers set) result sink.old sink.new }
 {
     let Some((number, others)) = set.split_first() else {
         return say_bytes(sink, b"");

@@ -2,7 +2,7 @@
 ghost use Rattle.std.specs.Prelude.{◌≡◌, map};
 ghost use Rattle.std.specs.Option.{option_map};
 ghost use Rattle.command_table.specs.RowsSeen.{row_seen};
-ghost use Rattle.front_words.specs.Programs.{command_page, name_of, rows_of, usage_of, version_of};
+ghost use Rattle.front_words.specs.Programs.{command_page, name_of, program_rows, program_usage, version_of};
 
 use crate::table::{list_version, version};
 use command_table::{Row, all_list_rows, all_rows, list_page, list_usage, page, usage};
@@ -29,7 +29,7 @@ impl Program {
 
     /// The rows of its table.
     pub fn rows(self) -> &'static [Row]
-        ensures { map row_seen result.now ≡ rows_of self }
+        ensures { map row_seen result.now ≡ program_rows self }
     {
         match self {
             Program::Mcg => all_rows(),
@@ -39,7 +39,7 @@ impl Program {
 
     /// Its usage.
     pub fn usage(self) -> &'static str
-        ensures { result.now ≡ usage_of self }
+        ensures { result.now ≡ program_usage self }
     {
         match self {
             Program::Mcg => usage(),

@@ -1,6 +1,6 @@
 //! What a refusal means.
 ghost use Rattle.std.specs.Prelude.{◌≡◌};
-ghost use Rattle.front_words.specs.Refused.{refused_text, stuck_text, stuck_words};
+ghost use Rattle.front_words.specs.Refused.{refused_text, stuck_move_text, stuck_words};
 ghost use Rattle.front_words.specs.Saying.{Says};
 
 use crate::pieces::MessagePiece::{Number, Text};
@@ -30,7 +30,7 @@ fn stuck_words(fault: StuckFault) -> &'static str
 
 // Says that a move has no result, and why.
 fn say_stuck<K: Sink>(sink: &mut K, program: &str, step: u32, fault: StuckFault) -> Said
-    ensures { Says K.written K.writes K.faults (stuck_text program.now step fault) result sink.old
+    ensures { Says K.written K.writes K.faults (stuck_move_text program.now step fault) result sink.old
         sink.new }
 {
     say(

@@ -1,6 +1,6 @@
 //! What is said of a list that is not an ear decomposition.
 ghost use Rattle.std.specs.Prelude.{◌≡◌};
-ghost use Rattle.front_words.specs.RefusedEars.{at_step_text, ear_text, ears_place_text, ears_text, step_words};
+ghost use Rattle.front_words.specs.RefusedEars.{at_step_text, ear_text, ears_place_text, refused_ears_text, step_fault_words};
 ghost use Rattle.front_words.specs.Saying.{Says};
 
 use crate::pieces::MessagePiece::{Number, Text};
@@ -53,7 +53,7 @@ fn say_ears_place<K: Sink>(sink: &mut K, program: &str, step: u32, place: EarPla
 
 // Says what is wrong with a step, and what would be right.
 fn say_step_fault<K: Sink>(sink: &mut K, fault: EarFault) -> Said
-    ensures { Says K.written K.writes K.faults (step_words fault) result sink.old sink.new }
+    ensures { Says K.written K.writes K.faults (step_fault_words fault) result sink.old sink.new }
 {
     match fault {
         EarFault::NotPath => say(
@@ -118,7 +118,7 @@ pub fn say_ears<K: Sink>(
     place: EarPlace,
     fault: EarFault,
 ) -> Said
-    ensures { Says K.written K.writes K.faults (ears_text program.now step place fault) result sink.old
+    ensures { Says K.written K.writes K.faults (refused_ears_text program.now step place fault) result sink.old
         sink.new }
 {
     say_ears_place(sink, program, step, place)?;

@@ -1,6 +1,6 @@
 //! What is said of a tree that is not a tight cut decomposition.
 ghost use Rattle.std.specs.Prelude.{◌≡◌};
-ghost use Rattle.front_words.specs.RefusedTrees.{moved_text, node_advice, node_text, node_words, tree_text};
+ghost use Rattle.front_words.specs.RefusedTrees.{moved_text, node_advice, node_text, node_fault_words, refused_tree_text};
 ghost use Rattle.front_words.specs.Saying.{Says};
 
 use crate::node_places::say_place;
@@ -11,7 +11,7 @@ use refusals::{NodeFault, NodePlace};
 
 // What is wrong with a node.
 fn node_words(fault: NodeFault) -> &'static str
-    ensures { result.now ≡ node_words fault }
+    ensures { result.now ≡ node_fault_words fault }
 {
     match fault {
         NodeFault::NotBlocks => {
@@ -66,7 +66,7 @@ pub fn say_tree<K: Sink>(
     place: Option<NodePlace>,
     fault: NodeFault,
 ) -> Said
-    ensures { Says K.written K.writes K.faults (tree_text program.now tree node place fault) result
+    ensures { Says K.written K.writes K.faults (refused_tree_text program.now tree node place fault) result
         sink.old sink.new }
 {
     say(

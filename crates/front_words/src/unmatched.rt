@@ -5,7 +5,7 @@ ghost use Rattle.command_table.specs.Pages.{command_line, command_lines};
 ghost use Rattle.command_table.specs.Reasons.{reason_seen};
 ghost use Rattle.command_table.specs.RowsSeen.{row_seen};
 ghost use Rattle.front_words.specs.Saying.{Says};
-ghost use Rattle.front_words.specs.Unmatched.{help_beyond, help_text, meant, meant_text, misuse_text, reason_text, some_reason_text, unmatched_text};
+ghost use Rattle.front_words.specs.Unmatched.{help_beyond, help_text, meant, meant_text, misuse_text, mismatch_text, some_reason_text, unmatched_text};
 
 use crate::answers::is_help;
 use crate::pieces::MessagePiece::{Shown, Text};
@@ -83,7 +83,7 @@ fn say_some_reason<'a, K: Sink>(
 // Says why the words match no row; nothing if they match one.
 fn say_reason<K: Sink>(sink: &mut K, program: &str, command: &[u8], reason: Option<Reason>) -> Said
     ensures { Says K.written K.writes K.faults
-        (reason_text program.now command.now (option_map reason_seen reason)) result
+        (mismatch_text program.now command.now (option_map reason_seen reason)) result
         sink.old sink.new }
 {
     match reason {

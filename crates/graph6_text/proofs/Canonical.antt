@@ -5,7 +5,7 @@ use Rattle.std.proofs.Common.{◌≡◌, ℕ, ◌+◌, ◌*◌, ◌/◌, ◌%◌
 use Rattle.std.proofs.lemmas.Bool.{eqb-false, cond-true, cond-false}
 use Rattle.counting.proofs.Common.{and_parts, le-leb, lt-leb, list_all, list_any, none}
 use Rattle.graph_core.proofs.Common.{Graph, IsSimple, adjacent, adjacent-ends}
-use Rattle.graph6_text.specs.Common.{byte_of, is_digit, bits_of, bytes_of, column_pairs, Fault, first_fault, faults_of, is_long, digit_at, order_of, data_of, filling_of, graph_of, body_of, outcome_of, size_of, adjacency_bits, graph6_of}
+use Rattle.graph6_text.specs.Common.{byte_of, is_digit, bits_of, bytes_of, column_pairs, Fault, first_fault, faults_of, is_long, digit_at, order_of, data_of, filling_of, graph_of_bits, body_of, outcome_of, size_of, adjacency_bits, graph6_of}
 use Rattle.graph6_text.proofs.Columns.{length-column_pairs, distinct_column_pairs}
 use Rattle.graph6_text.proofs.DistinctPairs.{present, present_chosen, distinct_chosen, simple_from_distinct}
 use Rattle.graph6_text.proofs.Passing.{IsFormed, formed, digits-data, enough_bits, all_fail, first_fault-append}
@@ -23,7 +23,7 @@ none-front (row ∷ xs) ys h = go row.0 (none-front xs ys) h
     go b ih h = grind arith
 
 -- what an accepted text is
-pub accepted : (text : List ℕ) (g : Graph) → outcome_of text ≡ Ok g → (first_fault (faults_of (body_of text)) ≡ None) × (graph_of (body_of text) ≡ g)
+pub accepted : (text : List ℕ) (g : Graph) → outcome_of text ≡ Ok g → (first_fault (faults_of (body_of text)) ≡ None) × (graph_of_bits (body_of text) ≡ g)
 unfolding outcome_of
 accepted text g h = grind arith
 
@@ -58,24 +58,24 @@ size_taken : (body : List ℕ) → IsFormed body → size_of (order_of body) ≡
 size_taken body h = grind (arith, long_taken, short_taken)
 
 -- its data are written as the bytes that they were read from
-data_taken : (body : List ℕ) → IsFormed body → AreZeros (filling_of body) → bytes_of (adjacency_bits (graph_of body)) ≡ data_of body
-unfolding adjacency_bits graph_of
+data_taken : (body : List ℕ) → IsFormed body → AreZeros (filling_of body) → bytes_of (adjacency_bits (graph_of_bits body)) ≡ data_of body
+unfolding adjacency_bits graph_of_bits
 data_taken body h zeros =
     let n = order_of body in
     let ps = column_pairs n in
     let bits = bits_of (data_of body) in
     let many = length-column_pairs n in
-    ap bytes_of (present-adjacent (graph_of body) ps ∙ present_chosen ps bits (distinct_column_pairs n) (enough_bits body h))
+    ap bytes_of (present-adjacent (graph_of_bits body) ps ∙ present_chosen ps bits (distinct_column_pairs n) (enough_bits body h))
     ∙ bytes-bits_of (data_of body) (length ps) (digits-data body h) (h.due ∙ ap (λ (t : ℕ). (t + 5) / 6) (sym many))
     (ap (λ (t : ℕ). list_any (λ bit. bit) (drop t bits)) many ∙ zeros)
 
-pub simple-graph_of : (body : List ℕ) → IsSimple (graph_of body)
-unfolding graph_of
-simple-graph_of body = simple_from_distinct (graph_of body) (distinct_chosen (column_pairs (order_of body)) (bits_of (data_of body)) (distinct_column_pairs (order_of body)))
+pub simple-graph_of : (body : List ℕ) → IsSimple (graph_of_bits body)
+unfolding graph_of_bits
+simple-graph_of body = simple_from_distinct (graph_of_bits body) (distinct_chosen (column_pairs (order_of body)) (bits_of (data_of body)) (distinct_column_pairs (order_of body)))
 
 -- what a text holds without header and line end is the text of its graph
 pub canonical_body : (text : List ℕ) (g : Graph) → outcome_of text ≡ Ok g → IsSimple g × (graph6_of g ≡ body_of text)
-unfolding graph6_of data_of graph_of
+unfolding graph6_of data_of graph_of_bits
 canonical_body text g h = grind (arith, accepted text g h, none-front, formed, all_fail, first_fault-append, size_taken, data_taken, take-append-drop, simple-graph_of)
 
 pub bare_written : (text : List ℕ) (g : Graph) → outcome_of text ≡ Ok g → body_of text ≡ graph6_of g

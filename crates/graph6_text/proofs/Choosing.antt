@@ -7,7 +7,7 @@ use Rattle.counting.proofs.Common.{cases_Bool, get_or_from_slice_get, list_any, 
 use Rattle.line_text.specs.declared.faults.FaultKind.{FaultKind}
 use Rattle.line_text.specs.declared.faults.TextFault.{TextFault}
 use Rattle.line_text.specs.declared.faults.TextFault.TheVariants as fault
-use Rattle.graph6_text.specs.Common.{IsFirstFault, limit_row, chosen, chosen_one}
+use Rattle.graph6_text.specs.Common.{IsFirstFaultOfRows, limit_row, chosen, chosen_one}
 
 pub chosen-no_bits : (pairs : List (ℕ × ℕ)) → chosen pairs [] ≡ []
 chosen-no_bits [] = refl
@@ -25,7 +25,7 @@ pub chosen_step : (ends : List (ℕ × ℕ)) (pair : ℕ × ℕ) (bit : Bool) (p
 chosen_step ends pair bit pairs bits = grind (arith, append_assoc ends (pair ∷ []) (chosen pairs bits), append-nil ends)
 
 -- the limit of edges is passed by more of them too
-pub longer_limit : (edges more all : List (ℕ × ℕ)) (f : TextFault) → edges ++ more ≡ all → IsFirstFault (limit_row edges) f → IsFirstFault (limit_row all) f
+pub longer_limit : (edges more all : List (ℕ × ℕ)) (f : TextFault) → edges ++ more ≡ all → IsFirstFaultOfRows (limit_row edges) f → IsFirstFaultOfRows (limit_row all) f
 longer_limit edges more all fault.Memory is first = tt
 longer_limit edges more all (fault.At line kind) is first = grind (arith, cases_Bool, nat_lt, over_longer, no_fault)
   where

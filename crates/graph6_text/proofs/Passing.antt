@@ -7,7 +7,7 @@ use Rattle.line_text.specs.Common.{IsFault}
 use Rattle.line_text.specs.declared.faults.FaultKind.TheVariants.{Padding}
 use Rattle.line_text.specs.declared.faults.TextFault.{TextFault}
 use Rattle.line_text.specs.declared.faults.TextFault.TheVariants as fault
-use Rattle.graph6_text.specs.Common.{is_digit, bits_of, column_pairs, chosen, limit_row, Checks, IsFirstFault, Fault, first_fault, faults_of, is_long, order_of, data_of, data_len, graph_of, graph_unless, body_of, outcome_of}
+use Rattle.graph6_text.specs.Common.{is_digit, bits_of, column_pairs, chosen, limit_row, Checks, IsFirstFaultOfRows, Fault, first_fault, faults_of, is_long, order_of, data_of, data_len, graph_of_bits, graph_unless, body_of, outcome_of}
 use Rattle.graph6_text.proofs.SixBits.{length-bits_of}
 use Rattle.graph6_text.proofs.Columns.{length-column_pairs}
 
@@ -63,11 +63,11 @@ pub enough_bits : (body : List ℕ) → IsFormed body → length (column_pairs (
 enough_bits body h = grind (arith, length-column_pairs (order_of body), length-bits_of (data_of body))
 
 -- the first error of two lists of tests
-pub is_first-front : (xs ys : List (Bool × Fault)) (e : TextFault) → Checks (Err e) xs → IsFirstFault (xs ++ ys) e
+pub is_first-front : (xs ys : List (Bool × Fault)) (e : TextFault) → Checks (Err e) xs → IsFirstFaultOfRows (xs ++ ys) e
 is_first-front xs ys (fault.At line kind) h = first_fault-front xs ys (line, kind) h
 is_first-front xs ys fault.Memory h = tt
 
-pub is_first-behind : (xs ys : List (Bool × Fault)) (e : TextFault) → first_fault xs ≡ None → IsFirstFault ys e → IsFirstFault (xs ++ ys) e
+pub is_first-behind : (xs ys : List (Bool × Fault)) (e : TextFault) → first_fault xs ≡ None → IsFirstFaultOfRows ys e → IsFirstFaultOfRows (xs ++ ys) e
 is_first-behind xs ys (fault.At line kind) none h = first_fault-append xs ys none ∙ h
 is_first-behind xs ys fault.Memory none h = tt
 
@@ -76,8 +76,8 @@ abbrev pub padding_row : ℕ → List Bool → List (Bool × Fault)
 padding_row from bits = (list_any (λ bit. bit) (drop from bits), (1, Padding)) ∷ []
 
 pub graph-from_bits : (body : List ℕ) (n : ℕ) (pairs : List (ℕ × ℕ)) (bits : List Bool) → n ≡ order_of body → pairs ≡ column_pairs n → bits ≡ bits_of (data_of body) →
-    record { order = n; ends = chosen pairs bits } ≡ graph_of body
-unfolding graph_of
+    record { order = n; ends = chosen pairs bits } ≡ graph_of_bits body
+unfolding graph_of_bits
 graph-from_bits body n pairs bits order columns turned = grind arith
 
 pub last_rows : (body : List ℕ) (n from : ℕ) (pairs : List (ℕ × ℕ)) (bits again : List Bool) → n ≡ order_of body → pairs ≡ column_pairs n → from ≡ length pairs →
@@ -85,11 +85,11 @@ pub last_rows : (body : List ℕ) (n from : ℕ) (pairs : List (ℕ × ℕ)) (bi
 last_rows body n from pairs bits again order columns place turned same = grind (arith, length-column_pairs, list_any, nat_lt, graph-from_bits)
 
 -- a text whose body has this first error, or none
-pub outcome-fault : (text : List ℕ) (e : TextFault) → IsFirstFault (faults_of (body_of text)) e → IsFault e (outcome_of text)
+pub outcome-fault : (text : List ℕ) (e : TextFault) → IsFirstFaultOfRows (faults_of (body_of text)) e → IsFault e (outcome_of text)
 unfolding outcome_of
-outcome-fault text (fault.At line kind) h = ap (λ (f : Option Fault). graph_unless f (graph_of (body_of text))) h
+outcome-fault text (fault.At line kind) h = ap (λ (f : Option Fault). graph_unless f (graph_of_bits (body_of text))) h
 outcome-fault text fault.Memory h = tt
 
-pub outcome-graph : (text : List ℕ) → first_fault (faults_of (body_of text)) ≡ None → outcome_of text ≡ Ok (graph_of (body_of text))
+pub outcome-graph : (text : List ℕ) → first_fault (faults_of (body_of text)) ≡ None → outcome_of text ≡ Ok (graph_of_bits (body_of text))
 unfolding outcome_of
-outcome-graph text h = ap (λ (f : Option Fault). graph_unless f (graph_of (body_of text))) h
+outcome-graph text h = ap (λ (f : Option Fault). graph_unless f (graph_of_bits (body_of text))) h

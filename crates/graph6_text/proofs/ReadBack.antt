@@ -9,7 +9,7 @@ use Rattle.std.proofs.lemmas.List.Folds.{list_all-append}
 use Rattle.std.proofs.lemmas.Slice.Eq.{ends_is}
 use Rattle.std.specs.List.{starts_with, ends_with}
 use Rattle.graph_core.proofs.Common.{Graph, size, IsWithinLimits, adjacent, joins, adjacent-ends, adjacent-edge, adjacent_back, adjacent_within}
-use Rattle.graph6_text.specs.Common.{byte_of, is_digit, bits_of, bytes_of, column_pairs, chosen, without_header, without_line_end, first_fault, faults_of, is_long, order_of, data_of, data_len, pair_count, filling_of, graph_of, body_of, size_of, adjacency_bits, graph6_of, ReadsBack}
+use Rattle.graph6_text.specs.Common.{byte_of, is_digit, bits_of, bytes_of, column_pairs, chosen, without_header, without_line_end, first_fault, faults_of, is_long, order_of, data_of, data_len, pair_count, filling_of, graph_of_bits, body_of, size_of, adjacency_bits, graph6_of, ReadsBack}
 use Rattle.graph6_text.proofs.Canonical.{digit_bounds, size-short, size-long, order-short, order-long, present-adjacent, simple-graph_of}
 use Rattle.graph6_text.proofs.Choosing.{chosen-filled}
 use Rattle.graph6_text.proofs.Columns.{length-column_pairs, distinct_column_pairs, any_column_pair}
@@ -99,8 +99,8 @@ module _ (g : Graph) (limits : IsWithinLimits g) where
   read_bits : Filled bits (bits_of (data_of (graph6_of g)))
   read_bits = subst (λ (xs : List ℕ). Filled bits (bits_of xs)) (sym size-text.behind) (bits-bytes_of bits)
 
-  graph-text : graph_of (graph6_of g) ≡ record { order = g.order; ends = chosen pairs bits }
-  unfolding graph_of
+  graph-text : graph_of_bits (graph6_of g) ≡ record { order = g.order; ends = chosen pairs bits }
+  unfolding graph_of_bits
   graph-text =
       let make : ℕ → List (ℕ × ℕ) → Graph = λ k es. record { order = k; ends = es } in
       ap₂ make size-text.order (ap₂ chosen (ap column_pairs size-text.order) read_bits.behind ∙ chosen-filled pairs bits read_bits.filling length-bits)
@@ -117,9 +117,9 @@ module _ (g : Graph) (limits : IsWithinLimits g) where
       let place : pair_count (order_of (graph6_of g)) ≡ length bits = ap pair_count size-text.order ∙ sym (length-bits ∙ many_pairs) in
       grind (arith, list_any, drop_at bits read_bits.filling (length bits) refl)
 
-  few-text : size (graph_of (graph6_of g)) ≤ 2048
+  few-text : size (graph_of_bits (graph6_of g)) ≤ 2048
   few-text =
-      let e : size (graph_of (graph6_of g)) ≡ length (chosen pairs (present g.ends pairs)) =
+      let e : size (graph_of_bits (graph6_of g)) ≡ length (chosen pairs (present g.ends pairs)) =
       ap size graph-text ∙ ap (λ (bs : List Bool). length (chosen pairs bs)) (bits-tested ∙ present-adjacent g pairs) in
       let most = present_at_most g.ends pairs (distinct_column_pairs g.order) in
       let limit = limits.edges in
@@ -135,7 +135,7 @@ module _ (g : Graph) (limits : IsWithinLimits g) where
           no_line_feed (graph6_of g) digits-text,
           (
             not_from_true (list_all is_digit (graph6_of g)) digits-text,
-            (size-text.whole, (size-text.not_longer, (size-text.due_form, (order, (due.0, (due.1, (zeros-text, (le-ltb 2048 (size (graph_of (graph6_of g))) few-text, tt)))))))),
+            (size-text.whole, (size-text.not_longer, (size-text.due_form, (order, (due.0, (due.1, (zeros-text, (le-ltb 2048 (size (graph_of_bits (graph6_of g))) few-text, tt)))))))),
           ),
         ),
       )
@@ -167,8 +167,8 @@ module _ (g : Graph) (limits : IsWithinLimits g) where
         ]
       ]
 
-  adjacent-text : (u v : ℕ) → adjacent (graph_of (graph6_of g)) none u v ≡ adjacent g none u v
-  adjacent-text u v = grind (arith, adjacent-ends (graph_of (graph6_of g)) u v, list_any (joins u v), graph-text, bits-tested, any_chosen, go (adjacent g none u v) refl)
+  adjacent-text : (u v : ℕ) → adjacent (graph_of_bits (graph6_of g)) none u v ≡ adjacent g none u v
+  adjacent-text u v = grind (arith, adjacent-ends (graph_of_bits (graph6_of g)) u v, list_any (joins u v), graph-text, bits-tested, any_chosen, go (adjacent g none u v) refl)
     where
       go : (b : Bool) → adjacent g none u v ≡ b → list_any (is_edge u v) pairs ≡ adjacent g none u v
       go true h = some_edge u v h ∙ sym h

@@ -4,7 +4,7 @@
 use Rattle.std.proofs.Common.{◌≡◌, ℕ, suc, zero, ◌+◌, ◌*◌, ◌/◌, ◌%◌, ◌<◌, ◌==◌, Bool, true, false, cond, List, [], ◌∷◌, ◌++◌, length, take, drop, refl, sym, ap, ap₂, ◌∙◌, arith, leb, leb-true}
 use Rattle.counting.proofs.Common.{and_parts, and_from, or_parts, or_from, le-leb, append-nil, list_all, list_any, bit}
 use Rattle.std.proofs.lemmas.List.{nil_from_length}
-use Rattle.graph6_text.specs.Common.{byte_of, digit_of, is_digit, weights, bits_of_digit, weight_of, digit_of_bits, bits_of, bytes_of}
+use Rattle.graph6_text.specs.Common.{byte_of, digit_of, is_digit, weights, bits_of_digit, bits_value, digit_of_bits, bits_of, bytes_of}
 use Rattle.graph6_text.proofs.SixBits.{digit_of_bits-lt, bits_of-nil, bits_of-cons}
 
 bit_lt : (b : Bool) → bit b < 2
@@ -111,19 +111,19 @@ digits-bytes_of (a ∷ b ∷ c ∷ d ∷ e ∷ []) = digit_first (a ∷ b ∷ c 
 digits-bytes_of (a ∷ b ∷ c ∷ d ∷ e ∷ f ∷ bits) = digit_first (a ∷ b ∷ c ∷ d ∷ e ∷ f ∷ []) (bytes_of bits) (digits-bytes_of bits)
 
 -- if only zeros follow the first k bits, their values have the same sum as all
-weight_of-take : (ws : List ℕ) (bits : List Bool) (k : ℕ) → AreZeros (drop k bits) → weight_of ws (take k bits) ≡ weight_of ws bits
-weight_of-take [] bits k h = refl
-weight_of-take (w ∷ ws) [] zero h = refl
-weight_of-take (w ∷ ws) [] (suc k) h = refl
-weight_of-take (w ∷ ws) (bit ∷ bits) zero h =
+bits_value-take : (ws : List ℕ) (bits : List Bool) (k : ℕ) → AreZeros (drop k bits) → bits_value ws (take k bits) ≡ bits_value ws bits
+bits_value-take [] bits k h = refl
+bits_value-take (w ∷ ws) [] zero h = refl
+bits_value-take (w ∷ ws) [] (suc k) h = refl
+bits_value-take (w ∷ ws) (bit ∷ bits) zero h =
     let p = or_parts bit (list_any (λ bit. bit) bits) h in
-    let none : weight_of ws bits ≡ 0 = sym (weight_of-take ws bits zero p.1) ∙ weight_of-nothing ws in
+    let none : bits_value ws bits ≡ 0 = sym (bits_value-take ws bits zero p.1) ∙ bits_value-nothing ws in
     rw (p.0) (omega arith)
   where
-    weight_of-nothing : (ws : List ℕ) → weight_of ws (take 0 bits) ≡ 0
-    weight_of-nothing [] = refl
-    weight_of-nothing (w ∷ ws) = refl
-weight_of-take (w ∷ ws) (bit ∷ bits) (suc k) h = ap (λ (n : ℕ). cond bit w 0 + n) (weight_of-take ws bits k h)
+    bits_value-nothing : (ws : List ℕ) → bits_value ws (take 0 bits) ≡ 0
+    bits_value-nothing [] = refl
+    bits_value-nothing (w ∷ ws) = refl
+bits_value-take (w ∷ ws) (bit ∷ bits) (suc k) h = ap (λ (n : ℕ). cond bit w 0 + n) (bits_value-take ws bits k h)
 
 zeros-front : (xs ys : List Bool) → AreZeros (xs ++ ys) → AreZeros xs
 zeros-front [] ys h = refl
@@ -134,7 +134,7 @@ first_byte : (byte k : ℕ) (bytes : List ℕ) → list_all is_digit (byte ∷ b
     byte_of (digit_of_bits (take k (bits_of_digit (digit_of byte)))) ≡ byte
 first_byte byte k bytes is zeros =
     let digit = (and_parts (is_digit byte) (list_all is_digit bytes) is).0 in
-    let all = weight_of-take weights (bits_of_digit (digit_of byte)) k (zeros-front (drop k (bits_of_digit (digit_of byte))) (bits_of bytes) zeros) in
+    let all = bits_value-take weights (bits_of_digit (digit_of byte)) k (zeros-front (drop k (bits_of_digit (digit_of byte))) (bits_of bytes) zeros) in
     ap byte_of (all ∙ digit-bits_of_digit (digit_of byte) (digit_of-lt byte digit)) ∙ byte-digit_of byte digit
 
 pub bytes-bits_of : (bytes : List ℕ) (t : ℕ) → list_all is_digit bytes ≡ true → length bytes ≡ (t + 5) / 6 → AreZeros (drop t (bits_of bytes)) → bytes_of (take t (bits_of bytes)) ≡ bytes

@@ -4,37 +4,37 @@
 use Rattle.std.proofs.Common.{◌≡◌, ℕ, zero, suc, ◌+◌, ◌-◌, ◌/◌, ◌%◌, ◌^◌, ◌==◌, slice_get, Some, ◌*◌, ◌<◌, ◌≤◌, Bool, true, false, cond, List, [], ◌∷◌, ◌++◌, length, take, drop, get_or, refl, sym, ap, ◌∙◌, arith, inl, inr, min, append_assoc, take_at, drop_at}
 use Rattle.std.proofs.lemmas.List.{drop_more, drop_all, nil_from_length}
 use Rattle.counting.proofs.Common.{append-nil, length-append, take_all, cases_lt}
-use Rattle.graph6_text.specs.Common.{byte_of, digit_of, weights, bits_of_digit, weight_of, digit_of_bits, bits_of, bytes_of}
+use Rattle.graph6_text.specs.Common.{byte_of, digit_of, weights, bits_of_digit, bits_value, digit_of_bits, bits_of, bytes_of}
 
-weight_of-nil : (ws : List ℕ) → weight_of ws [] ≡ 0
-weight_of-nil [] = refl
-weight_of-nil (w ∷ ws) = refl
+bits_value-nil : (ws : List ℕ) → bits_value ws [] ≡ 0
+bits_value-nil [] = refl
+bits_value-nil (w ∷ ws) = refl
 
 -- the weight of the bits from place i on, with the bit at place i first
-weight_of-drop : (ws : List ℕ) (bits : List Bool) (i : ℕ) → i < length ws → i < length bits → weight_of (drop i ws) (drop i bits) ≡ cond (get_or bits i false) (get_or ws i 0) 0 + weight_of (drop (i + 1) ws) (drop (i + 1) bits)
-weight_of-drop ws bits i h k = rw (drop_more ws i 0 h, drop_more bits i false k) refl
+bits_value-drop : (ws : List ℕ) (bits : List Bool) (i : ℕ) → i < length ws → i < length bits → bits_value (drop i ws) (drop i bits) ≡ cond (get_or bits i false) (get_or ws i 0) 0 + bits_value (drop (i + 1) ws) (drop (i + 1) bits)
+bits_value-drop ws bits i h k = rw (drop_more ws i 0 h, drop_more bits i false k) refl
 
 -- all weights together
 abbrev whole : List ℕ → ℕ
 whole [] = 0
 whole (w ∷ ws) = w + whole ws
 
-weight_of-le : (ws : List ℕ) (bits : List Bool) → weight_of ws bits ≤ whole ws
-weight_of-le [] bits = omega arith
-weight_of-le (w ∷ ws) [] = omega arith
-weight_of-le (w ∷ ws) (true ∷ bits) = let h = weight_of-le ws bits in omega arith
-weight_of-le (w ∷ ws) (false ∷ bits) = let h = weight_of-le ws bits in omega arith
+bits_value-le : (ws : List ℕ) (bits : List Bool) → bits_value ws bits ≤ whole ws
+bits_value-le [] bits = omega arith
+bits_value-le (w ∷ ws) [] = omega arith
+bits_value-le (w ∷ ws) (true ∷ bits) = let h = bits_value-le ws bits in omega arith
+bits_value-le (w ∷ ws) (false ∷ bits) = let h = bits_value-le ws bits in omega arith
 
 pub digit_of_bits-lt : (bits : List Bool) → digit_of_bits bits < 64
-digit_of_bits-lt bits = let h = weight_of-le weights bits in omega arith
+digit_of_bits-lt bits = let h = bits_value-le weights bits in omega arith
 
 -- the loop over the bits of a digit: one bit more, and the end
-pub weighed_more : (bits : List Bool) (i digit more : ℕ) → i < length bits → length bits ≤ 6 → digit + weight_of (drop i weights) (drop i bits) ≡ digit_of_bits bits →
-    more ≡ digit + cond (get_or bits i false) (get_or weights i 0) 0 → more + weight_of (drop (i + 1) weights) (drop (i + 1) bits) ≡ digit_of_bits bits
-weighed_more bits i digit more h k inv e = let s = weight_of-drop weights bits i (omega arith) h in omega arith
+pub weighed_more : (bits : List Bool) (i digit more : ℕ) → i < length bits → length bits ≤ 6 → digit + bits_value (drop i weights) (drop i bits) ≡ digit_of_bits bits →
+    more ≡ digit + cond (get_or bits i false) (get_or weights i 0) 0 → more + bits_value (drop (i + 1) weights) (drop (i + 1) bits) ≡ digit_of_bits bits
+weighed_more bits i digit more h k inv e = let s = bits_value-drop weights bits i (omega arith) h in omega arith
 
-pub weighed_all : (bits : List Bool) (i digit : ℕ) → length bits ≤ i → digit + weight_of (drop i weights) (drop i bits) ≡ digit_of_bits bits → digit ≡ digit_of_bits bits
-weighed_all bits i digit h inv = grind (arith, drop_all i bits h, weight_of-nil (drop i weights))
+pub weighed_all : (bits : List Bool) (i digit : ℕ) → length bits ≤ i → digit + bits_value (drop i weights) (drop i bits) ≡ digit_of_bits bits → digit ≡ digit_of_bits bits
+weighed_all bits i digit h inv = grind (arith, drop_all i bits h, bits_value-nil (drop i weights))
 
 -- the bits of no byte, and of one more
 pub bits_of-nil : bits_of [] ≡ []

@@ -13,9 +13,9 @@ Checks (Err (fault.At line kind)) rows = first_fault rows ≡ Some (line, kind)
 Checks (Err fault.Memory) rows = ⊥
 
 -- the first error of these rows, or lack of memory
-abbrev pub IsFirstFault : List (Bool × Fault) → TextFault → Type 0
-IsFirstFault rows (fault.At line kind) = first_fault rows ≡ Some (line, kind)
-IsFirstFault rows fault.Memory = Unit {0}
+abbrev pub IsFirstFaultOfRows : List (Bool × Fault) → TextFault → Type 0
+IsFirstFaultOfRows rows (fault.At line kind) = first_fault rows ≡ Some (line, kind)
+IsFirstFaultOfRows rows fault.Memory = Unit {0}
 
 -- the row of the limit on edges
 abbrev pub limit_row : List (ℕ × ℕ) → List (Bool × Fault)

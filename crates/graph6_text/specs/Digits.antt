@@ -36,14 +36,14 @@ abbrev pub bits_of_digit : ℕ → List Bool
 bits_of_digit digit = map (λ weight. (digit / weight) % 2 == 1) weights
 
 -- the sum of the values of the set bits
-abbrev pub weight_of : List ℕ → List Bool → ℕ
-weight_of [] bits = 0
-weight_of (weight ∷ ws) [] = 0
-weight_of (weight ∷ ws) (bit ∷ bits) = (if bit then weight else 0) + weight_of ws bits
+abbrev pub bits_value : List ℕ → List Bool → ℕ
+bits_value [] bits = 0
+bits_value (weight ∷ ws) [] = 0
+bits_value (weight ∷ ws) (bit ∷ bits) = (if bit then weight else 0) + bits_value ws bits
 
 -- the digit that begins with these bits, padded with zeros
 abbrev pub digit_of_bits : List Bool → ℕ
-digit_of_bits bits = weight_of weights bits
+digit_of_bits bits = bits_value weights bits
 
 -- the bits that bytes write
 unfoldable pub bits_of : List ℕ → List Bool

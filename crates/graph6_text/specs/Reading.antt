@@ -74,8 +74,8 @@ abbrev pub filling_of : List ℕ → List Bool
 filling_of body = drop (pair_count (order_of body)) (bits_of (data_of body))
 
 -- the graph whose edges are the pairs with a set bit, in the order of the bits
-unfoldable pub graph_of : List ℕ → Graph
-graph_of body = record { order = order_of body; ends = chosen (column_pairs (order_of body)) (bits_of (data_of body)) }
+unfoldable pub graph_of_bits : List ℕ → Graph
+graph_of_bits body = record { order = order_of body; ends = chosen (column_pairs (order_of body)) (bits_of (data_of body)) }
 
 -- a line and the kind of an error there
 abbrev pub Fault : Type 0
@@ -94,7 +94,7 @@ faults_of body =
     (nat_lt (length (data_of body)) (data_len (order_of body)), (1, Missing)) ∷
     (nat_lt (data_len (order_of body)) (length (data_of body)), (1, Extra)) ∷
     (list_any (λ bit. bit) (filling_of body), (1, Padding)) ∷
-    (nat_lt most_edges (size (graph_of body)), (1, Limit)) ∷ []
+    (nat_lt most_edges (size (graph_of_bits body)), (1, Limit)) ∷ []
 
 -- the first error whose test is true
 abbrev pub first_fault : List (Bool × Fault) → Option Fault
@@ -108,4 +108,4 @@ graph_unless (Some fault) g = Err fault
 
 -- what a text stands for: a graph, or otherwise its first error
 unfoldable pub outcome_of : List ℕ → Result Graph Fault
-outcome_of text = graph_unless (first_fault (faults_of (body_of text))) (graph_of (body_of text))
+outcome_of text = graph_unless (first_fault (faults_of (body_of text))) (graph_of_bits (body_of text))

@@ -4,7 +4,7 @@ ghost use Rattle.std.specs.List.{list_all, list_any};
 ghost use Rattle.counting.specs.Common.{Within};
 ghost use Rattle.line_text.specs.Common.{IsFault};
 ghost use Rattle.graph_core.specs.Common.{Graph, size, IsSimple, pair_of};
-ghost use Rattle.graph6_text.specs.Common.{bits_of, chosen, chosen_one, column, column_pairs, data_len, is_digit, limit_row, pair_count, Checks, IsFirstFault, outcome_of, graph_of, faults_of, first_fault, graph6_of};
+ghost use Rattle.graph6_text.specs.Common.{bits_of, chosen, chosen_one, column, column_pairs, data_len, is_digit, limit_row, pair_count, Checks, IsFirstFaultOfRows, outcome_of, graph_of_bits, faults_of, first_fault, graph6_of};
 
 use crate::body::{body, data, order};
 use crate::checks::{check_body, fault, pair_count};
@@ -44,9 +44,9 @@ pub fn bare_text(text: &[u8]) -> &[u8]
 /// The graph of a body whose size and length have been checked.
 fn to_graph(alloc: Global, body: &[u8]) -> Result<MultiGraph, TextFault>
     requires { first_fault (take 9 (faults_of body.now)) ≡ None }
-    ensures graph { IfOk result (λ g. g ≡ graph_of body.now) }
+    ensures graph { IfOk result (λ g. g ≡ graph_of_bits body.now) }
     ensures passed { OnOk result (first_fault (drop 9 (faults_of body.now)) ≡ None) }
-    ensures fault { IfErr result (IsFirstFault (drop 9 (faults_of body.now))) }
+    ensures fault { IfErr result (IsFirstFaultOfRows (drop 9 (faults_of body.now))) }
 {
     let n = order(body);
     let data = data(body);
@@ -91,7 +91,7 @@ fn add_chosen(graph: &mut MultiGraph, pair: Ends, bit: bool) -> Result<(), TextF
     ensures ends { OnOk result (graph.new.ends ≡ graph.old.ends ++ chosen_one (pair_of pair) bit) }
     ensures size { OnOk result (size graph.new ≤ 2048) }
     ensures limit { IfErr result
-        (IsFirstFault (limit_row (graph.old.ends ++ chosen_one (pair_of pair) bit))) }
+        (IsFirstFaultOfRows (limit_row (graph.old.ends ++ chosen_one (pair_of pair) bit))) }
 {
     if !bit {
         return Ok(());
@@ -122,7 +122,7 @@ fn add_column(
         graph.old.ends ++ chosen (column before (before + 1)) (drop from (bits_of data.now))) }
     ensures size { OnOk result (size graph.new ≤ 2048) }
     ensures limit { IfErr result
-        (IsFirstFault (limit_row
+        (IsFirstFaultOfRows (limit_row
         (graph.old.ends ++ chosen (column before (before + 1)) (drop from (bits_of data.now))))) }
 {
     for i in 0..before {
@@ -146,7 +146,7 @@ fn with_edges(alloc: Global, n: u32, data: &[u8]) -> Result<MultiGraph, TextFaul
     ensures within { OnOk result
         (first_fault (limit_row (chosen (column_pairs n) (bits_of data.now))) ≡ None) }
     ensures limit { IfErr result
-        (IsFirstFault (limit_row (chosen (column_pairs n) (bits_of data.now)))) }
+        (IsFirstFaultOfRows (limit_row (chosen (column_pairs n) (bits_of data.now)))) }
 {
     let mut graph = MultiGraph::new(alloc, n)?;
     let mut from = 0;

@@ -4,7 +4,7 @@
 use Rattle.std.proofs.Common.{◌≡◌, ℕ, suc, zero, ◌<◌, Bool, true, false, ◌==◌, refl, sym, ap, ap₂, ◌∙◌, arith, ◌&&◌, not, ◌⊎◌, inl, inr, List, [], ◌∷◌, ◌++◌, subst, eq-eqb, eqb-true, ne_eqb, cond, map, append_assoc, append-nil, nat_lt, ltb-true}
 use Rattle.std.proofs.lemmas.Bool.{not_from_false}
 use Rattle.counting.proofs.Common.{and_from, and_parts, both_ways, cases_Bool, cases_eq, false_from_ne_true, not-true, not-false, or_parts, rising_list-congr, rising_list-rises, mem-rising_list, same_rising_list, some_true, not_but_parts, or_fails_first, same_tests, and_false, and_true, Within, IsRisingIn, mem, rising_list, Set, complement, meet, minus, union, some}
-use Rattle.graph_core.specs.Common.{components, is_least, Graph, IsGraph, IsStage, Hangs, IsForest, Joined, Walk, adjacent, joined}
+use Rattle.graph_core.specs.Common.{components, is_least, Graph, IsGraph, IsComponentStage, Hangs, IsForest, Joined, Walk, adjacent, joined}
 use Rattle.graph_core.proofs.Components.{joined_walk, walk_joined}
 use Rattle.graph_core.proofs.Trees.{adjacent_more, hangs_more, joined_more, least_same}
 use Rattle.graph_core.proofs.Walks.{adjacent-edge, adjacent_from, adjacent_within, adjacent_back, joined_self, joined_on}
@@ -42,7 +42,7 @@ module _ (g : Graph) (s : Set) (is : IsGraph g) where
   parts_start left only all = grind (arith, adjacent-edge g s, adjacent_within g s is, both_ways, rising_list-congr g.order (meet left (is_least g s)) (is_least g s), not-true, and_parts)
 
   -- the same, with trees
-  pub stage_start : (left : Set) (parent depth : ℕ → ℕ) → ((v : ℕ) → left v ≡ true → Within g.order v × (s v ≡ false)) → ((v : ℕ) → Within g.order v → s v ≡ false → left v ≡ true) → IsStage g s left [] parent depth
+  pub stage_start : (left : Set) (parent depth : ℕ → ℕ) → ((v : ℕ) → left v ≡ true → Within g.order v × (s v ≡ false)) → ((v : ℕ) → Within g.order v → s v ≡ false → left v ≡ true) → IsComponentStage g s left [] parent depth
   unfolding components
   stage_start left parent depth only all = grind (arith, adjacent-edge g s, adjacent_within g s is, both_ways, rising_list-congr g.order (meet left (is_least g s)) (is_least g s), not-true, and_parts)
 
@@ -124,10 +124,10 @@ module _ (g : Graph) (s : Set) (is : IsGraph g) where
             keep a b l f h = grind arith
 
   -- the same with the trees
-  pub stage_step : (left left' : Set) (parts : List (List ℕ)) (part : List ℕ) (parent parent' depth depth' : ℕ → ℕ) (u : ℕ) → IsStage g s left parts parent depth → left u ≡ true → ((v : ℕ) → v < u → left v ≡ false) →
+  pub stage_step : (left left' : Set) (parts : List (List ℕ)) (part : List ℕ) (parent parent' depth depth' : ℕ → ℕ) (u : ℕ) → IsComponentStage g s left parts parent depth → left u ≡ true → ((v : ℕ) → v < u → left v ≡ false) →
       ((v : ℕ) → left' v ≡ true → left v ≡ true) → ((v : ℕ) → Within g.order v → (left v && not (left' v)) ≡ joined g (complement left) u v) → IsForest g (complement (minus left left')) (λ v. u == v) parent' depth' →
       ((v : ℕ) → Within g.order v → left v ≡ false → (parent' v ≡ parent v) × (depth' v ≡ depth v)) → IsRisingIn g.order part → ((v : ℕ) → Within g.order v → mem part v ≡ (left v && not (left' v))) →
-      IsStage g s left' (parts ++ part ∷ []) parent' depth'
+      IsComponentStage g s left' (parts ++ part ∷ []) parent' depth'
   stage_step left left' parts part parent parent' depth depth' u old lu low smaller takes tree same rising is_part = record {
     vertices = now.vertices;
     closed = now.closed;
@@ -164,7 +164,7 @@ module _ (g : Graph) (s : Set) (is : IsGraph g) where
           before k = grind (arith, or_parts, adjacent-edge, adjacent_within, adjacent_more)
 
   -- with nothing left, the list is that of the components, and the trees are search trees of g - s
-  pub stage_end : (left : Set) (parts : List (List ℕ)) (parent depth : ℕ → ℕ) → IsStage g s left parts parent depth → ((v : ℕ) → left v ≡ false) → (parts ≡ components g s) × IsForest g s (is_least g s) parent depth
+  pub stage_end : (left : Set) (parts : List (List ℕ)) (parent depth : ℕ → ℕ) → IsComponentStage g s left parts parent depth → ((v : ℕ) → left v ≡ false) → (parts ≡ components g s) × IsForest g s (is_least g s) parent depth
   stage_end left parts parent depth old none_left = grind (arith, append-nil parts, rising_list-nothing g.order (meet left (is_least g s)), hangs_more g (union s left) s parent depth, or_fails_first)
 
   pub parts_end : (left : Set) (parts : List (List ℕ)) → AreFirst g s left parts → ((v : ℕ) → left v ≡ false) → parts ≡ components g s

@@ -7,7 +7,7 @@ unfoldable pub use Rattle.graph_core.specs.Walks.{Joined, joined}
 pub use Rattle.graph_core.specs.Trees.{Hangs, IsForest, way_up, way_down, above}
 pub use Rattle.graph_core.specs.Rows.{AreRows}
 pub use Rattle.graph_core.specs.Nodes.{node_at, parent_at, depth_at, is_even_at, IsRooted, AreTrees}
-pub use Rattle.graph_core.specs.FoundVertices.{IsGrowth, IsGrown, IsStage}
+pub use Rattle.graph_core.specs.FoundVertices.{IsGrowth, IsGrown, IsComponentStage}
 pub use Rattle.graph_core.specs.Sides.{IsSide, IsLeftSide, AreSides, IsEven}
 pub use Rattle.graph_core.specs.Components.{is_least, IsConnected}
 unfoldable pub use Rattle.graph_core.specs.Components.{component_count, odd_component_count, components}

@@ -26,7 +26,7 @@ pub record IsGrown (g : Graph) (x : Set) (r : ℕ) (left : Set) (parent depth : 
   pub tree : IsForest g (complement (minus x left)) (singleton r) parent depth
 
 -- the components found so far are the first ones of g - s; `left` has the vertices of the others
-pub record IsStage (g : Graph) (s left : Set) (parts : List (List ℕ)) (parent depth : ℕ → ℕ) : Type 0 where
+pub record IsComponentStage (g : Graph) (s left : Set) (parts : List (List ℕ)) (parent depth : ℕ → ℕ) : Type 0 where
   pub vertices : (v : ℕ) → left v ≡ true → Within g.order v × (s v ≡ false)
   pub closed : (u v : ℕ) → adjacent g s u v ≡ true → left u ≡ left v
   pub tree : IsForest g (union s left) (is_least g s) parent depth

@@ -5,7 +5,7 @@
 use Rattle.std.proofs.Common.{◌≡◌, ℕ, suc, ◌+◌, ◌≤◌, ◌≢◌, Bool, true, cond, ◌==◌, ◌&&◌, ◌||◌, not, inl, inr, List, [], ◌∷◌, length, map, filter, refl, sym, ap, ap₂, ◌∙◌, arith, subst, eq-eqb, ne_eqb}
 use Rattle.counting.proofs.Common.{Within, bit, Set, none, mem, same_tests}
 use Rattle.graph_core.proofs.Common.{Graph, size, first_end, second_end, IsGraph, has_ends, Joined, Walk, adjacent, joined, IsConnected, adjacent-edge, adjacent_from, has_ends-back, has_ends-cases, has_ends-own, joined_on, joined_self, joined_walk, walk_joined}
-use Rattle.grow_gen.specs.Common.{is_at, other_end, edge_with_end, new_number, renumbered_edge, rehung_edges}
+use Rattle.grow_gen.specs.Common.{is_at, end_opposite, edge_with_end, new_number, renumbered_edge, rehung_edges}
 use Rattle.grow_gen.proofs.EdgeSums.{Each, by_test, sum_edges, each-edge, edge-at}
 use Rattle.grow_gen.proofs.Rehanging.{IsEdge, flags_at, caught, caught-none, not_at-ends, rehung_edges-none, member-later}
 use Rattle.grow_gen.proofs.Renumbering.{kept_edges, ends_beside}
@@ -107,7 +107,7 @@ each-stays_old n w x s (t ∷ ts) (e ∷ es) c k l h = by_test (is_at w e)
 pub each-stays_new : (k n w : ℕ) (x : Set) (s : Bool) (es : List (ℕ × ℕ)) → Each (IsEdge k) es → Each (Stays x) (map (renumbered_edge n w) (kept_edges es)) → Each (λ v. x (new_number n w v) ≡ s) (ends_beside 1 es) → Each (Stays (with_answer 1 s (λ v. x (new_number n w v)))) es
 each-stays_new k n w x s [] c z b = tt
 each-stays_new k n w x s (e ∷ es) c z b = by_test (is_at 1 e)
-    (λ a. Each (Stays x) (map (renumbered_edge n w) (cond (not a) (e ∷ kept_edges es) (kept_edges es))) → Each (λ v. x (new_number n w v) ≡ s) (map (other_end 1) (cond a (e ∷ filter (is_at 1) es) (filter (is_at 1) es))) → Each (Stays (with_answer 1 s (λ v. x (new_number n w v)))) (e ∷ es))
+    (λ a. Each (Stays x) (map (renumbered_edge n w) (cond (not a) (e ∷ kept_edges es) (kept_edges es))) → Each (λ v. x (new_number n w v) ≡ s) (map (end_opposite 1) (cond a (e ∷ filter (is_at 1) es) (filter (is_at 1) es))) → Each (Stays (with_answer 1 s (λ v. x (new_number n w v)))) (e ∷ es))
     (λ a p q. ((grind arith), each-stays_new k n w x s es c.1 p q.1))
     (λ a p q. let d = not_at-ends 1 e a in
     (answer-other 1 e.0 s (λ v. x (new_number n w v)) d.0 ∙ p.0 ∙ sym (answer-other 1 e.1 s (λ v. x (new_number n w v)) d.1), each-stays_new k n w x s es c.1 p.1 q))

@@ -4,7 +4,7 @@
 use Rattle.std.proofs.Common.{◌≡◌, ℕ, suc, ◌+◌, ◌-◌, ◌≤◌, ◌<◌, ◌≢◌, Bool, true, false, cond, ◌==◌, ◌&&◌, ◌||◌, not, inl, inr, List, [], ◌∷◌, ◌++◌, length, map, filter, refl, sym, ap, ap₂, ◌∙◌, arith, subst, ne_eqb, le_trans, slice_index_or}
 use Rattle.counting.proofs.Common.{or_from, and_left, and_right, count_le_one, only_one, total_congr, at_le_total, total-first, Within, bit, total, mem}
 use Rattle.graph_core.proofs.Common.{Graph, size, first_end, second_end, has_ends, IsMultigraph, IsSimple, has_ends-own, has_ends-cases, has_ends-back}
-use Rattle.grow_gen.specs.Common.{IsCubic, is_at, other_end, edge_with_end, new_number, permutation, renumbered_edge, rehung_edges, splice}
+use Rattle.grow_gen.specs.Common.{IsCubic, is_at, end_opposite, edge_with_end, new_number, permutation, renumbered_edge, rehung_edges, splice}
 use Rattle.grow_gen.proofs.EdgeSums.{Each, by_test, item-next, each-weaker}
 use Rattle.grow_gen.proofs.Rehanging.{IsEdge, IsClear, not_at-ends, rehung_edges-none, member-later}
 use Rattle.grow_gen.proofs.Renumbering.{kept_edges, ends_beside, new_number-same, new_number-where, old_or_new}
@@ -107,7 +107,7 @@ hits-beside : (x : ℕ) (es : List (ℕ × ℕ)) → hits x (ends_beside 1 es) �
 hits-beside x [] = omega arith
 hits-beside x (e ∷ es) = grind (arith, by_test (is_at 1 e), hits-beside x es)
   where
-    joined : is_at 1 e ≡ true → bit (other_end 1 e == x) ≤ bit (joins 1 x e)
+    joined : is_at 1 e ≡ true → bit (end_opposite 1 e == x) ≤ bit (joins 1 x e)
     joined a = grind arith
 
 module _ (n w : ℕ) (ww : Within n w) where

@@ -3,7 +3,7 @@
 -- the marks of the edges at w taken out in order.
 use Rattle.std.proofs.Common.{◌≡◌, ℕ, suc, ◌+◌, ◌≤◌, ◌<◌, ◌≢◌, Bool, true, false, cond, ◌==◌, ◌&&◌, ◌⊎◌, inl, inr, List, [], ◌∷◌, length, refl, sym, ap, ap₂, ◌∙◌, arith, eq-eqb, ne_eqb}
 use Rattle.counting.proofs.Common.{or_parts, both_ways, or_left, or_right, bit_and_false, Within, bit, Set, mem}
-use Rattle.grow_gen.specs.Common.{is_at, other_end, edge_with_end, rehung_edges}
+use Rattle.grow_gen.specs.Common.{is_at, end_opposite, edge_with_end, rehung_edges}
 use Rattle.grow_gen.proofs.EdgeSums.{Each, sum_edges, ends_at, by_test, marks_where}
 
 -- the marks of the edges at w
@@ -21,7 +21,7 @@ abbrev pub IsEdge : ℕ → ℕ × ℕ → Type 0
 IsEdge n e = Within n e.0 × Within n e.1 × (e.0 ≢ e.1)
 
 -- an edge at w has w as its first end, or as its second alone
-pub at-cases : (w t : ℕ) (e : ℕ × ℕ) → is_at w e ≡ true → ((e.0 ≡ w) × (edge_with_end w t e ≡ (t, e.1)) × (other_end w e ≡ e.1)) ⊎ ((e.1 ≡ w) × (e.0 ≢ w) × (edge_with_end w t e ≡ (e.0, t)) × (other_end w e ≡ e.0))
+pub at-cases : (w t : ℕ) (e : ℕ × ℕ) → is_at w e ≡ true → ((e.0 ≡ w) × (edge_with_end w t e ≡ (t, e.1)) × (end_opposite w e ≡ e.1)) ⊎ ((e.1 ≡ w) × (e.0 ≢ w) × (edge_with_end w t e ≡ (e.0, t)) × (end_opposite w e ≡ e.0))
 at-cases w t e h = grind arith
 
 -- an edge that is not at w has other ends

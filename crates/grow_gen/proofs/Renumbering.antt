@@ -3,7 +3,7 @@
 -- got new ends.
 use Rattle.std.proofs.Common.{◌≡◌, ℕ, ◌+◌, ◌-◌, ◌≤◌, ◌<◌, ◌≢◌, Bool, true, cond, ◌==◌, ◌&&◌, not, ◌⊎◌, inl, inr, List, [], ◌∷◌, length, map, filter, refl, sym, ap, ap₂, ◌∙◌, arith, ne_eqb}
 use Rattle.counting.proofs.Common.{cases_eq, cases_lt, Within, bit}
-use Rattle.grow_gen.specs.Common.{is_at, other_end, new_number, renumbered_edge}
+use Rattle.grow_gen.specs.Common.{is_at, end_opposite, new_number, renumbered_edge}
 use Rattle.grow_gen.proofs.EdgeSums.{Each, sum_edges, ends_at, by_test, marks_where}
 use Rattle.grow_gen.proofs.Rehanging.{IsEdge, flags_at, caught, not_at-ends, no_end}
 
@@ -17,7 +17,7 @@ kept_marks bs es = marks_where (λ e. not (is_at 1 e)) bs es
 
 -- the other ends of the edges at v
 abbrev pub ends_beside : ℕ → List (ℕ × ℕ) → List ℕ
-ends_beside v es = map (other_end v) (filter (is_at v) es)
+ends_beside v es = map (end_opposite v) (filter (is_at v) es)
 
 module _ (n w : ℕ) (ww : Within n w) where
   -- the new numbers of different vertices differ
@@ -55,12 +55,12 @@ module _ (n w : ℕ) (ww : Within n w) where
   sum_edges-kept_new k x [] (e ∷ es) a c l = absurd (omega arith)
   sum_edges-kept_new k x (b ∷ bs) (e ∷ es) a c l = by_test (is_at 1 e)
       (λ s. sum_edges (ends_at (new_number n w x)) (cond (not s) (b ∷ kept_marks bs es) (kept_marks bs es)) (map (renumbered_edge n w) (cond (not s) (e ∷ kept_edges es) (kept_edges es)))
-      + caught (λ t. t == x) (cond s (b ∷ flags_at 1 bs es) (flags_at 1 bs es)) (map (other_end 1) (cond s (e ∷ filter (is_at 1) es) (filter (is_at 1) es))) ≡ ends_at x b e + sum_edges (ends_at x) bs es)
+      + caught (λ t. t == x) (cond s (b ∷ flags_at 1 bs es) (flags_at 1 bs es)) (map (end_opposite 1) (cond s (e ∷ filter (is_at 1) es) (filter (is_at 1) es))) ≡ ends_at x b e + sum_edges (ends_at x) bs es)
       (λ s. let h = sum_edges-kept_new k x bs es a c.1 (omega arith) in let q = beside s in omega (arith, h, q))
       (λ s. let h = sum_edges-kept_new k x bs es a c.1 (omega arith) in let d = not_at-ends 1 e s in
       let q = moved_ends x b e a (above_one k e.0 c.0.0 d.0) (above_one k e.1 c.0.1 d.1) in omega (arith, h, q))
     where
-      beside : is_at 1 e ≡ true → ends_at x b e ≡ bit (b && (other_end 1 e == x))
+      beside : is_at 1 e ≡ true → ends_at x b e ≡ bit (b && (end_opposite 1 e == x))
       beside s = grind arith
 
   -- an old vertex has none of them
@@ -90,5 +90,5 @@ pub each-beside : (k : ℕ) (es : List (ℕ × ℕ)) → Each (IsEdge k) es → 
 each-beside k [] c = tt
 each-beside k (e ∷ es) c = grind (arith, by_test (is_at 1 e), in_range, each-beside k es c.1)
   where
-    in_range : is_at 1 e ≡ true → (2 ≤ other_end 1 e) × (other_end 1 e ≤ k)
+    in_range : is_at 1 e ≡ true → (2 ≤ end_opposite 1 e) × (end_opposite 1 e ≤ k)
     in_range s = grind arith

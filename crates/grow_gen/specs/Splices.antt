@@ -10,12 +10,12 @@ abbrev pub is_at : ℕ → ℕ × ℕ → Bool
 is_at v e = e.0 == v || e.1 == v
 
 -- the other end of an edge at v
-abbrev pub other_end : ℕ → ℕ × ℕ → ℕ
-other_end v e = if e.0 == v then e.1 else e.0
+abbrev pub end_opposite : ℕ → ℕ × ℕ → ℕ
+end_opposite v e = if e.0 == v then e.1 else e.0
 
 -- the other ends of the edges at v, in the order of the edges
 abbrev pub neighbours : Graph → ℕ → List ℕ
-neighbours g v = map (other_end v) (filter (is_at v) g.ends)
+neighbours g v = map (end_opposite v) (filter (is_at v) g.ends)
 
 -- the six permutations of 1, 2, 3 in lexicographic order
 abbrev pub permutations : List (List ℕ)

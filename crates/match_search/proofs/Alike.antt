@@ -4,7 +4,7 @@ use Rattle.std.proofs.Common.{◌≡◌, ℕ, suc, ◌+◌, ◌≤◌, ◌<◌, 
 use Rattle.counting.proofs.Common.{Within, Set}
 use Rattle.graph_core.proofs.Common.{degree_congr, Graph, degree, first_end, second_end, size, IsMatching}
 use Rattle.match_search.proofs.LongerPaths.{ends_by}
-use Rattle.match_search.specs.Common.{IsOddCycle, IsAlternating, IsForest}
+use Rattle.match_search.specs.Common.{IsOddCycle, IsAlternating, IsAlternatingForest}
 
 -- a path depends only on the values at its places
 pub path_alike : (g : Graph) (r f : Set) (k : ℕ) (v e v' e' : ℕ → ℕ) → ((j : ℕ) → j ≤ k + k → v' j ≡ v j) → ((j : ℕ) → j < k + k → e' j ≡ e j) → IsAlternating g r f k v e → IsAlternating g r f k v' e'
@@ -24,7 +24,7 @@ path_alike g r f k v e v' e' hv he p = record {
 pub forest_alike : (g : Graph) (r f outer inner : Set) (k : ℕ → ℕ) (v e : ℕ → ℕ → ℕ) (outer' inner' : Set) (k' : ℕ → ℕ) (v' e' : ℕ → ℕ → ℕ) →
     ((u : ℕ) → outer' u ≡ outer u) → ((u : ℕ) → inner' u ≡ inner u) → ((u : ℕ) → outer u ≡ true → k' u ≡ k u) →
     ((u : ℕ) → outer u ≡ true → (j : ℕ) → j ≤ k u + k u → v' u j ≡ v u j) → ((u : ℕ) → outer u ≡ true → (j : ℕ) → j < k u + k u → e' u j ≡ e u j) →
-    IsForest g r f outer inner k v e → IsForest g r f outer' inner' k' v' e'
+    IsAlternatingForest g r f outer inner k v e → IsAlternatingForest g r f outer' inner' k' v' e'
 forest_alike g r f outer inner k v e outer' inner' k' v' e' ho hi hk hv he forest = record {
   outer_in = λ u t. forest.outer_in u (sym (ho u) ∙ t);
   inner_in = λ u t. forest.inner_in u (sym (hi u) ∙ t);

@@ -4,7 +4,7 @@
 use Rattle.std.proofs.Common.{◌≡◌, ◌≢◌, ℕ, suc, zero, ◌+◌, ◌*◌, ◌≤◌, ◌<◌, true, false, ◌==◌, refl, sym, ap, ◌∙◌, arith, eq-eqb, ne_eqb, eqb-true, inl, inr, not, ◌&&◌, ◌||◌, subst, List}
 use Rattle.counting.proofs.Common.{fun_ext, cases_Bool, cases_eq, both_ways, not-true, false_from_ne_true, and_from, or_right, half, some_true, at_le_total, Within, bit, count, is_odd, Set, complement, minus, put, mem}
 use Rattle.graph_core.proofs.Common.{add_edge, ends_of_is, Graph, HasEnds, IsGraph, degree, size, with_ends, IsMatching}
-use Rattle.match_search.specs.Common.{IsNearPerfect, IsShrunk, shrunk_removed, HasMates, with_mate, with_pair, IsOddCycle, every_other, listed, picked, IsOpened, IsInstance, Touches, shrunk_ends}
+use Rattle.match_search.specs.Common.{IsNearPerfect, IsShrunk, shrunk_removed, HasMates, with_mate, with_pair, IsOddCycle, every_other, listed, picked, IsOpenedCycle, IsInstance, Touches, shrunk_ends}
 use Rattle.match_search.proofs.ClosingPairs.{cycle_missed, degree_elsewhere, mates_alike}
 use Rattle.match_search.proofs.Forests.{met, turned}
 use Rattle.match_search.proofs.LongerPaths.{end_within}
@@ -18,7 +18,7 @@ use Rattle.match_search.proofs.ShrunkInstances.{edge_keeps, edge_stays, edge_was
 use Rattle.match_search.proofs.Instances.{left_from}
 use Rattle.match_search.specs.declared.instance.Instance.{Instance}
 
-module _ (g : Graph) (is : IsGraph g) (r f m : Set) (n : ℕ) (c e : ℕ → ℕ) (opened : IsOpened g r f m n c e) where
+module _ (g : Graph) (is : IsGraph g) (r f m : Set) (n : ℕ) (c e : ℕ → ℕ) (opened : IsOpenedCycle g r f m n c e) where
   abbrev pub cs : Set
   cs = listed n c
 

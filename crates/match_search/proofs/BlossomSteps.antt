@@ -4,7 +4,7 @@
 use Rattle.std.proofs.Common.{◌≡◌, ◌≢◌, ℕ, ◌+◌, ◌≤◌, ◌<◌, ◌⊎◌, true, refl, sym, ap, ◌∙◌, arith, ◌||◌, inl, inr, subst, List}
 use Rattle.counting.proofs.Common.{fun_ext, or_cases, count_le, Within, count, Set, complement, union, mem}
 use Rattle.graph_core.proofs.Common.{Graph, HasEnds, IsGraph, IsMatching, degree, size, with_ends}
-use Rattle.match_search.specs.Common.{Frame, shrunk_removed, HasMates, paired_round, with_mate, with_pair, IsOddCycle, every_other, listed, picked, IsOpened, IsWidened, StepAnswer, shrunk_ends}
+use Rattle.match_search.specs.Common.{Frame, shrunk_removed, HasMates, paired_round, with_mate, with_pair, IsOddCycle, every_other, listed, picked, IsOpenedCycle, IsWidened, StepAnswer, shrunk_ends}
 use Rattle.match_search.specs.declared.answer.Answer.{Answer}
 use Rattle.match_search.specs.declared.answer.Answer.TheVariants.{Grown, Final}
 use Rattle.match_search.proofs.ClosingPairs.{mates_alike}
@@ -20,7 +20,7 @@ use Rattle.match_search.proofs.BlossomMates.{pulls, first_within, cr, cw, wz, cz
 abbrev pub Step : Graph → Set → Set → Type 0
 Step g r f = ((m : Set) × IsMatching g r m × (count (size g) m ≡ count (size g) f + 1)) ⊎ ((outer : Set) × (inner : Set) × Frame g r (count (size g) f) outer inner)
 
-module _ (g : Graph) (is : IsGraph g) (r f m : Set) (n : ℕ) (c e : ℕ → ℕ) (opened : IsOpened g r f m n c e) where
+module _ (g : Graph) (is : IsGraph g) (r f m : Set) (n : ℕ) (c e : ℕ → ℕ) (opened : IsOpenedCycle g r f m n c e) where
   abbrev cs : Set
   cs = listed n c
 

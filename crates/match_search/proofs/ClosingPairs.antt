@@ -4,7 +4,7 @@
 use Rattle.std.proofs.Common.{◌≡◌, ◌≢◌, ℕ, suc, ◌+◌, ◌-◌, ◌/◌, ◌≤◌, ◌<◌, true, false, cond, ◌==◌, refl, sym, ap, ◌∙◌, arith, ne_eqb, inl, inr, subst, length, List, ◌&&◌, not}
 use Rattle.counting.proofs.Common.{fun_ext, cases_Bool, cases_eq, both_ways, false_from_ne_true, half, Within, bit, count, Set, minus, put, mem}
 use Rattle.graph_core.proofs.Common.{degree_put, ends_of_is, Graph, HasEnds, degree, size, IsMatching}
-use Rattle.match_search.specs.Common.{AreClosingPaths, ExposesOnly, HoldsBlossom, IsAugmented, second_start, IsAlternating, flipped, IsNearPerfect, HasMates, with_pair, flipped_mates, cleared_mates, IsOddCycle, every_other, listed, picked, numbers, part, IsOpened}
+use Rattle.match_search.specs.Common.{AreClosingPaths, ExposesOnly, HoldsBlossom, IsAugmented, second_start, IsAlternating, flipped, IsNearPerfect, HasMates, with_pair, flipped_mates, cleared_mates, IsOddCycle, every_other, listed, picked, numbers, part, IsOpenedCycle}
 use Rattle.match_search.specs.declared.blossom.Blossom.{Blossom}
 use Rattle.match_search.specs.declared.paths.Paths.{Paths}
 use Rattle.match_search.proofs.Alike.{cycle_alike}
@@ -24,7 +24,7 @@ pub degree_elsewhere : (g : Graph) (m : Set) (d x y : ℕ) → Within (size g) d
 degree_elsewhere g m d x y w ends u nx ny = grind (arith, degree_put g m d true u w, ends_of_is g d x y ends u, ne_eqb x u, ne_eqb y u)
 
 -- the mates of the stem without the cycle are those of the opened matching
-module _ (g : Graph) (r f m : Set) (n : ℕ) (c e : ℕ → ℕ) (is : IsOpened g r f m n c e) where
+module _ (g : Graph) (r f m : Set) (n : ℕ) (c e : ℕ → ℕ) (is : IsOpenedCycle g r f m n c e) where
   abbrev e1 : Set
   e1 = picked n (every_other 1) e
 
@@ -206,7 +206,7 @@ module _ (g : Graph) (r f : Set) (mate : List ℕ) (w : Paths) (are : AreClosing
     abbrev opened_matching : Set
     opened_matching = minus stem (picked n (every_other 1) edge_round)
 
-    is_opened : IsOpened g r f opened_matching n (numbers cs) edge_round
+    is_opened : IsOpenedCycle g r f opened_matching n (numbers cs) edge_round
     is_opened = record {
       cycle = blossom_cycle;
       stem = stem;
@@ -224,7 +224,7 @@ module _ (g : Graph) (r f : Set) (mate : List ℕ) (w : Paths) (are : AreClosing
       members = subst (λ (xs : List ℕ). (v : ℕ) → mem blossom.members v ≡ listed (length xs - 1) (numbers xs) v) (sym row) members;
       m = opened_matching;
       edge = edge_round;
-      opened = subst (λ (xs : List ℕ). IsOpened g r f opened_matching (length xs - 1) (numbers xs) edge_round) (sym row) (subst (λ (t : ℕ). IsOpened g r f opened_matching t (numbers cs) edge_round) size is_opened);
+      opened = subst (λ (xs : List ℕ). IsOpenedCycle g r f opened_matching (length xs - 1) (numbers xs) edge_round) (sym row) (subst (λ (t : ℕ). IsOpenedCycle g r f opened_matching t (numbers cs) edge_round) size is_opened);
       mates = mates_alike g r opened_matching (cleared_mates sm n (numbers cs)) (numbers new) (λ u. mates u ∙ ap (λ (t : ℕ). cleared_mates sm t (numbers cs) u) (sym size))
           (opened_pairs g r f opened_matching n (numbers cs) edge_round is_opened sm (flipped_pairs g r f (numbers mate) are.mates l Q b qq (j / 2) half_in));
     }

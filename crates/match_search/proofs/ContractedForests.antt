@@ -4,7 +4,7 @@
 use Rattle.std.proofs.Common.{◌≡◌, ◌≢◌, ℕ, suc, ◌+◌, ◌-◌, ◌≤◌, ◌<◌, true, false, cond, ◌==◌, refl, sym, ap, ◌∙◌, arith, not, ◌&&◌, ◌||◌, eq-eqb, eqb-true, ne_eqb, inl, inr}
 use Rattle.counting.proofs.Common.{and_from, and_parts, and_true, both_ways, cases_Bool, not-true, or_cases, or_false, or_right, true≢false, Within, is_odd, Set}
 use Rattle.graph_core.proofs.Common.{HasEnds, degree, first_end, second_end, size}
-use Rattle.match_search.specs.Common.{IsForest, shrunk_vertex}
+use Rattle.match_search.specs.Common.{IsAlternatingForest, shrunk_vertex}
 use Rattle.match_search.proofs.ContractedPaths.{new_last, new_path, place_fits, stays_at}
 use Rattle.match_search.proofs.CrossingPaths.{Way, inner_mate, mate_out, same_way, way_in, way_on, ways}
 use Rattle.match_search.proofs.LongerPaths.{ends_by}
@@ -94,7 +94,7 @@ module _ (given : ShrunkForest) (outer' inner' : Set) (parent' mate' : ℕ → �
         stays_inner (v' u j) st ∙ s.1 ∙ place_odd base (skip u) j,
       )
 
-  new_forest : IsForest (H given) (rs given) (left_edges given) outer' inner' k' v' e'
+  new_forest : IsAlternatingForest (H given) (rs given) (left_edges given) outer' inner' k' v' e'
   new_forest = record {
     outer_in = λ u t. let p = outer_parts u t in let a = forest.outer_in u p.0 in (a.0, stays_left given u p.1 a.1);
     inner_in = λ u t.

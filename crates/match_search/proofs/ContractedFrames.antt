@@ -4,7 +4,7 @@
 use Rattle.std.proofs.Common.{◌≡◌, ◌≢◌, ℕ, suc, ◌+◌, ◌-◌, ◌≤◌, Bool, true, false, ◌==◌, refl, sym, ap, ap₂, ◌∙◌, arith, not, ◌&&◌, ◌||◌, eq-eqb, ne_eqb, inl, inr, subst}
 use Rattle.counting.proofs.Common.{and_false, and_from, both_ways, cases_Bool, cases_eq, count_congr, fun_ext, or_right, Within, bit, count, Set, none, union}
 use Rattle.graph_core.proofs.Common.{IsMatching, degree, missed_count, size}
-use Rattle.match_search.specs.Common.{Frame, IsAlternating, IsForest, IsNearPerfect, flipped}
+use Rattle.match_search.specs.Common.{Frame, IsAlternating, IsAlternatingForest, IsNearPerfect, flipped}
 use Rattle.match_search.proofs.AlternatingPaths.{flipped_count, flipped_end, flipped_matching}
 use Rattle.match_search.proofs.ContractedPaths.{at, length_of, new_last, new_path, on}
 use Rattle.match_search.proofs.CrossingPaths.{Way, mate_within, way_in}
@@ -117,7 +117,7 @@ module _ (given : ShrunkForest) where
       abbrev first : Set
       first = first_outer (H given) (graph_below given) (rs given) (left_edges given) mm
 
-      start : IsForest (H given) (rs given) (left_edges given) first none (λ u. 0) (λ u j. u) (λ u j. 0)
+      start : IsAlternatingForest (H given) (rs given) (left_edges given) first none (λ u. 0) (λ u j. u) (λ u j. 0)
       start = forest_start (H given) (graph_below given) (rs given) (left_edges given) mm
 
       only_base : (u : ℕ) → Within g.order u → rs given u ≡ false → u ≡ z

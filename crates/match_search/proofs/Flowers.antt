@@ -4,7 +4,7 @@
 use Rattle.std.proofs.Common.{◌≡◌, ◌≢◌, ℕ, suc, ◌<◌, Bool, true, false, sym, ap, ap₂, ◌∙◌, arith, inl, inr, not, cond, ◌&&◌, ◌||◌, ◌==◌, refl, subst, eq-eqb, eqb-true, ne_eqb, List, [], ◌∷◌, length, Option, None}
 use Rattle.counting.proofs.Common.{fun_ext, and_from, and_parts, count_congr, count_of_one, cases_eq, false_from_ne_true, not-true, or_cases, or_left, or_right, only_one, or_false, true≢false, Within, count, Set, mem, none}
 use Rattle.graph_core.proofs.Common.{Graph, degree, size, missed_count}
-use Rattle.match_search.specs.Common.{AreExposed, GrowsForest, HasContracted, HasMates, HasRestarted, HoldsAlternating, HoldsForest, HoldsMatching, IsGrownForest, IsInstance, IsSettled, HasOuter, HoldsFlower, HoldsRooted, Frame, IsMissableRow, Touches, numbers, IsShrinking, every_other, picked, shrunk_ends}
+use Rattle.match_search.specs.Common.{AreExposed, GrowsForest, HasContracted, HasMates, HasRestarted, HoldsAlternating, HoldsForest, HoldsMatching, IsGrownForest, IsInstance, IsSettledVertex, HasOuter, HoldsFlower, HoldsRooted, Frame, IsMissableRow, Touches, numbers, IsShrinking, every_other, picked, shrunk_ends}
 use Rattle.match_search.specs.declared.flower.Flower.{Flower}
 use Rattle.match_search.specs.declared.alternating.AlternatingForest.{AlternatingForest}
 use Rattle.match_search.specs.declared.growing.Adjacent.{Adjacent}
@@ -190,7 +190,7 @@ module _ {g : Graph} {r f : Set} {s : Instance} {mate : List ℕ} {t : Alternati
       still_left a d e q w = grind arith
 
       -- an outer vertex that is not active stays settled
-      settled_below : (x : ℕ) → mem u.outer x ≡ true → mem u.active x ≡ false → IsSettled i u x
+      settled_below : (x : ℕ) → mem u.outer x ≡ true → mem u.active x ≡ false → IsSettledVertex i u x
       settled_below x o n y touches left other =
           let shut = both_false (mem t.active x && not (c x)) (b.base == x) (sym (contracted.active x) ∙ n) in
           let was = and_parts (mem t.outer x) (not (c x)) (outside (mem t.outer x && not (c x)) (b.base == x) shut.1 (sym (contracted.outer x) ∙ o)) in

@@ -7,9 +7,9 @@ use Rattle.graph_core.proofs.Common.{edge_at, ends_le_degree, ends_of_is, bit_sa
 use Rattle.match_search.proofs.LongerPaths.{end_within, ends_by, spots, extended, longer}
 use Rattle.match_search.proofs.Forests.{mates_of, met, one_edge, outer_edge, turned}
 use Rattle.match_search.proofs.AlternatingPaths.{put_at, put_off}
-use Rattle.match_search.specs.Common.{IsAlternating, IsForest}
+use Rattle.match_search.specs.Common.{IsAlternating, IsAlternatingForest}
 
-module _ (g : Graph) (is : IsGraph g) (r f : Set) (mm : IsMatching g r f) (outer inner : Set) (k : ℕ → ℕ) (v e : ℕ → ℕ → ℕ) (forest : IsForest g r f outer inner k v e) where
+module _ (g : Graph) (is : IsGraph g) (r f : Set) (mm : IsMatching g r f) (outer inner : Set) (k : ℕ → ℕ) (v e : ℕ → ℕ → ℕ) (forest : IsAlternatingForest g r f outer inner k v e) where
   -- a vertex outside the forest has an edge of f
   pub mate : (w : ℕ) → Within g.order w → r w ≡ false → outer w ≡ false → (d : ℕ) × (x : ℕ) × Within (size g) d × (f d ≡ true) × HasEnds g d w x
   mate w ww rw' ow = let m = edge_at g f w (elim (cases_eq (degree g f w) 0) [ inl q ↦ absurd (both_ways (outer w) ow (forest.misses w ww rw' q)) | inr q ↦ omega arith ]) in
@@ -102,7 +102,7 @@ module _ (g : Graph) (is : IsGraph g) (r f : Set) (mm : IsMatching g r f) (outer
     )
 
     -- the forest with w and its mate
-    pub grown : IsForest g r f more_outer more_inner more_k more_v more_e
+    pub grown : IsAlternatingForest g r f more_outer more_inner more_k more_v more_e
     grown = record {
       outer_in = λ y t. elim (cases_eq y x) [
         | inl q ↦ subst (λ z. Within g.order z × (r z ≡ false)) (sym q) (wx, out_x)

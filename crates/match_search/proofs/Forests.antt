@@ -6,7 +6,7 @@ use Rattle.counting.proofs.Common.{cases_eq, and_from, both_ways, true≢false, 
 use Rattle.graph_core.proofs.Common.{bit_same, ends_le_degree, ends_of_is, missed_edges, two_ends_le_degree, Graph, IsGraph, degree, first_end, second_end, size, HasEnds, IsMatching, missed_count}
 use Rattle.match_search.proofs.Certificates.{ends_total}
 use Rattle.match_search.proofs.AlternatingPaths.{flipped_count, flipped_end, flipped_matching}
-use Rattle.match_search.specs.Common.{IsForest, flipped, Frame}
+use Rattle.match_search.specs.Common.{IsAlternatingForest, flipped, Frame}
 
 -- an edge of f at a vertex
 pub met : (g : Graph) (f : Set) (d x y : ℕ) → Within (size g) d → f d ≡ true → HasEnds g d x y → (1 ≤ degree g f x) × (1 ≤ degree g f y)
@@ -30,7 +30,7 @@ module _ (g : Graph) (is : IsGraph g) (r f : Set) (mm : IsMatching g r f) where
   not_first : (v : ℕ) → 1 ≤ degree g f v → first_outer v ≡ false
   not_first v l = false_from_ne_true (first_outer v) (λ t. let a = (first_parts v t).2 in absurd (omega arith))
 
-  pub forest_start : IsForest g r f first_outer none (λ u. 0) (λ u j. u) (λ u j. 0)
+  pub forest_start : IsAlternatingForest g r f first_outer none (λ u. 0) (λ u j. u) (λ u j. 0)
   forest_start = record {
     outer_in = λ u t. let a = first_parts u t in (a.0, a.1);
     inner_in = λ u t. absurd (true≢false (sym t));
@@ -53,7 +53,7 @@ module _ (g : Graph) (is : IsGraph g) (r f : Set) (mm : IsMatching g r f) where
     sides = λ u t j w. let z : j ≡ 0 = omega arith in (t ∙ sym (ap (λ k. not (is_odd k)) z), sym (ap is_odd z));
   }
 
-module _ (g : Graph) (is : IsGraph g) (r f : Set) (mm : IsMatching g r f) (outer inner : Set) (k : ℕ → ℕ) (v e : ℕ → ℕ → ℕ) (forest : IsForest g r f outer inner k v e) where
+module _ (g : Graph) (is : IsGraph g) (r f : Set) (mm : IsMatching g r f) (outer inner : Set) (k : ℕ → ℕ) (v e : ℕ → ℕ → ℕ) (forest : IsAlternatingForest g r f outer inner k v e) where
   pub mates_of : (d x y : ℕ) → Within (size g) d → f d ≡ true → HasEnds g d x y → (outer x ≡ inner y) × (inner x ≡ outer y)
   mates_of d x y w fd ends = grind arith
 

@@ -3,7 +3,7 @@
 use Rattle.std.proofs.Common.{◌≡◌, ℕ, ◌<◌, ◌∙◌, arith, subst₂, length, List, get_or, nat_lt, nat_le, lt-ltb, Option, Some, None, true, ◌==◌, ◌||◌, ◌⊎◌, eq-eqb}
 use Rattle.counting.proofs.Common.{fun_ext, and_from, le-leb, total_congr, get_or_default_zero, Within, count, Set, complement, mem}
 use Rattle.graph_core.proofs.Common.{Graph}
-use Rattle.match_search.specs.Common.{AreExposed, HoldsMatching, IsGrownForest, IsOpened, HasMates, MayBeExposed, ClosesForest, HoldsBlossom, IsCompleted, IsMateStep, MayOpen, blossom_length, removed_with, without_blossom, IsInstance, listed, numbers, AreAlike, IsShrinking, IsWidened}
+use Rattle.match_search.specs.Common.{AreExposed, HoldsMatching, IsGrownForest, IsOpenedCycle, HasMates, MayBeExposed, ClosesForest, HoldsBlossom, IsCompleted, IsMateStep, MayOpen, blossom_length, removed_with, without_blossom, IsInstance, listed, numbers, AreAlike, IsShrinking, IsWidened}
 use Rattle.match_search.specs.declared.blossom.Blossom.{Blossom}
 use Rattle.match_search.specs.declared.growing.Adjacent.{Adjacent}
 use Rattle.match_search.specs.declared.alternating.AlternatingForest.{AlternatingForest}
@@ -43,7 +43,7 @@ pub candidates_below : (s h : Instance) (cycle : List ℕ) (base : ℕ) → IsSh
 candidates_below s h cycle base shrink candidates more before after may exposes more_is v l z = grind arith
 
 -- the instance with a cycle shrunk, and the mates of the matching that misses the cycle
-module _ (g : Graph) (r f m : Set) (s h : Instance) (mate mate2 : List ℕ) (n : ℕ) (c e : ℕ → ℕ) (is : HoldsMatching g r f s mate) (long : length mate2 ≡ length mate) (opened : IsOpened g r f m n c e) (mates : HasMates g r m (numbers mate2)) (shrinking : IsShrinking s (listed n c) (c 1) h) where
+module _ (g : Graph) (r f m : Set) (s h : Instance) (mate mate2 : List ℕ) (n : ℕ) (c e : ℕ → ℕ) (is : HoldsMatching g r f s mate) (long : length mate2 ≡ length mate) (opened : IsOpenedCycle g r f m n c e) (mates : HasMates g r m (numbers mate2)) (shrinking : IsShrinking s (listed n c) (c 1) h) where
   pub opened_holds : HoldsMatching (H g is.instance_is.graph r f m n c e opened) (rs g is.instance_is.graph r f m n c e opened) m h mate2
   opened_holds = record {
     instance_is = shrunk_instance g (listed n c) (c 1) _ (pulls g is.instance_is.graph r f m n c e opened) (cz g is.instance_is.graph r f m n c e opened) r s h is.instance_is

@@ -3,7 +3,7 @@
 use Rattle.std.proofs.Common.{◌≡◌, ◌≢◌, ℕ, suc, ◌+◌, Bool, true, false, cond, ◌==◌, refl, sym, ap, ◌∙◌, arith, eq-eqb, ne_eqb, inl, inr, ◌&&◌, ◌||◌, nat_lt, nat_le, length, List, leb-true}
 use Rattle.counting.proofs.Common.{cases_eq, both_ways, and_parts, Within, count, Set, none, mem}
 use Rattle.graph_core.proofs.Common.{Graph, HasEnds, IsGraph, degree, size}
-use Rattle.match_search.specs.Common.{AreExposed, GrowsForest, IsForest, Frame, Touches, HoldsMatching, HoldsAlternating, HasBranched, HasRestarted, GoesUp, IsDone, IsSized, numbers}
+use Rattle.match_search.specs.Common.{AreExposed, GrowsForest, IsAlternatingForest, Frame, Touches, HoldsMatching, HoldsAlternating, HasBranched, HasRestarted, GoesUp, IsDone, IsSized, numbers}
 use Rattle.match_search.specs.declared.instance.Instance.{Instance}
 use Rattle.match_search.specs.declared.alternating.AlternatingForest.{AlternatingForest}
 use Rattle.match_search.proofs.Alike.{forest_alike}
@@ -102,7 +102,7 @@ module _ (g : Graph) (r f : Set) (s : Instance) (mate : List ℕ) (is : HoldsMat
       oz = sym mates_of.1 ∙ iy
 
       module _ (h : AlternatingForest) (grew : HasBranched t h x y z) where
-        bigger : IsForest g r f (more_outer g is_graph r f is.mates.matching (mem t.outer) (mem t.inner) holds.k holds.v holds.e holds.forest edge.0 x y pair.0 z edge.1 edge.2 ox ry oy iy pair.1 pair.2 pair.3)
+        bigger : IsAlternatingForest g r f (more_outer g is_graph r f is.mates.matching (mem t.outer) (mem t.inner) holds.k holds.v holds.e holds.forest edge.0 x y pair.0 z edge.1 edge.2 ox ry oy iy pair.1 pair.2 pair.3)
             (more_inner g is_graph r f is.mates.matching (mem t.outer) (mem t.inner) holds.k holds.v holds.e holds.forest edge.0 x y pair.0 z edge.1 edge.2 ox ry oy iy pair.1 pair.2 pair.3)
             (more_k g is_graph r f is.mates.matching (mem t.outer) (mem t.inner) holds.k holds.v holds.e holds.forest edge.0 x y pair.0 z edge.1 edge.2 ox ry oy iy pair.1 pair.2 pair.3)
             (more_v g is_graph r f is.mates.matching (mem t.outer) (mem t.inner) holds.k holds.v holds.e holds.forest edge.0 x y pair.0 z edge.1 edge.2 ox ry oy iy pair.1 pair.2 pair.3)

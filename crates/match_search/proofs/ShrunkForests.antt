@@ -5,7 +5,7 @@
 use Rattle.std.proofs.Common.{◌≡◌, ◌≢◌, ℕ, suc, ◌+◌, ◌*◌, ◌≤◌, ◌⊎◌, true, false, cond, ◌==◌, refl, sym, ap, ◌∙◌, arith, not, ◌&&◌, ◌||◌, eq-eqb, ne_eqb, inl, inr, subst, List}
 use Rattle.counting.proofs.Common.{and_false, and_from, and_parts, both_ways, cases_Bool, cases_eq, false_from_ne_true, not-true, total_at, Within, bit, count, Set, minus}
 use Rattle.graph_core.proofs.Common.{edge_at, Graph, HasEnds, IsGraph, IsMatching, degree, size, with_ends}
-use Rattle.match_search.specs.Common.{HasMates, IsContractible, IsForest, IsShrunk, shrunk_removed, shrunk_vertex}
+use Rattle.match_search.specs.Common.{HasMates, IsContractible, IsAlternatingForest, IsShrunk, shrunk_removed, shrunk_vertex}
 use Rattle.match_search.proofs.Forests.{met, one_edge, turned}
 use Rattle.match_search.proofs.LongerPaths.{end_within, ends_by}
 use Rattle.match_search.proofs.MatePairs.{mate_back}
@@ -36,7 +36,7 @@ pub record IsWalkedForest (g : Graph) (r f : Set) (outer inner : Set) (parent ma
   pub k : ℕ → ℕ
   pub v : ℕ → ℕ → ℕ
   pub e : ℕ → ℕ → ℕ
-  pub forest : IsForest g r f outer inner k v e
+  pub forest : IsAlternatingForest g r f outer inner k v e
   pub up : (u : ℕ) → outer u ≡ true → k u ≢ 0 → (p : ℕ) × WalksUp outer k v parent mate u p
 
 -- a vertex that stays: it is outside c or the base

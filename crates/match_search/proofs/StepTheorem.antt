@@ -9,7 +9,7 @@ use Rattle.match_search.proofs.ForestSteps.{mate, grown, grown_size, more_e, mor
 use Rattle.match_search.proofs.ClosingEdges.{even_j, cycle, stem_count, stem_free, stem_holds, stem_matching}
 use Rattle.match_search.proofs.AlternatingPaths.{two_paths}
 use Rattle.match_search.proofs.BlossomSteps.{Step, shrink_step}
-use Rattle.match_search.specs.Common.{IsAlternating, IsForest}
+use Rattle.match_search.specs.Common.{IsAlternating, IsAlternatingForest}
 
 -- the greatest place up to n where the first of two holds, and the second after it
 pub greatest : (n : ℕ) (P Q : ℕ → Type 0) → ((i : ℕ) → P i ⊎ Q i) → ((i : ℕ) × (i ≤ n) × P i × ((s : ℕ) → i < s → s ≤ n → Q s)) ⊎ ((s : ℕ) → s ≤ n → Q s)
@@ -55,7 +55,7 @@ module _ (g : Graph) (is : IsGraph g) (r f : Set) (mm : IsMatching g r f)
     | inr a ↦ grind (arith, cases_Bool (bad outer inner (second_end g d) (first_end g d)), cases_Bool, both_ways, bad_from outer inner)
   ]
 
-  search_step : (n : ℕ) (outer inner : Set) (k : ℕ → ℕ) (v e : ℕ → ℕ → ℕ) → IsForest g r f outer inner k v e → g.order + g.order < count g.order outer + count g.order inner + n → Step g r f
+  search_step : (n : ℕ) (outer inner : Set) (k : ℕ → ℕ) (v e : ℕ → ℕ → ℕ) → IsAlternatingForest g r f outer inner k v e → g.order + g.order < count g.order outer + count g.order inner + n → Step g r f
   search_step zero outer inner k v e forest l = let a = count_le g.order outer in let b = count_le g.order inner in absurd (omega arith)
   search_step (suc n) outer inner k v e forest l =
       elim (scan (size g) (Open outer inner) (Closed outer inner) (λ d w. open_or_closed outer inner d)) [
@@ -63,7 +63,7 @@ module _ (g : Graph) (is : IsGraph g) (r f : Set) (mm : IsMatching g r f)
         | inl found ↦ at_edge (λ o i k' v' e' fo l. search_step n o i k' v' e' fo l) found.0 found.2.0 found.2.1 found.1 found.2.2 (bad_parts outer inner found.2.0 found.2.1 found.2.3)
       ]
     where
-      at_edge : ((o i : Set) (k' : ℕ → ℕ) (v' e' : ℕ → ℕ → ℕ) → IsForest g r f o i k' v' e' → g.order + g.order < count g.order o + count g.order i + n → Step g r f) → (a u w : ℕ) → Within (size g) a → HasEnds g a u w → (r u ≡ false) × (r w ≡ false) × (u ≢ w) × (outer u ≡ true) × (inner w ≡ false) → Step g r f
+      at_edge : ((o i : Set) (k' : ℕ → ℕ) (v' e' : ℕ → ℕ → ℕ) → IsAlternatingForest g r f o i k' v' e' → g.order + g.order < count g.order o + count g.order i + n → Step g r f) → (a u w : ℕ) → Within (size g) a → HasEnds g a u w → (r u ≡ false) × (r w ≡ false) × (u ≢ w) × (outer u ≡ true) × (inner w ≡ false) → Step g r f
       at_edge on a u w wa ends component_count = elim (cases_Bool (outer w)) [
         | inr ow ↦
             let ww = end_within g is a w u wa (turned g a u w ends) in

@@ -4,7 +4,7 @@
 use Rattle.std.specs.Prelude.{◌≢◌, ◌≡◌, ℕ, suc, ◌+◌, ◌≤◌, ◌==◌, ◌&&◌, ◌||◌, ◌⊎◌, not, true, false, length, List, Option, Some, None}
 use Rattle.counting.specs.Common.{Set, mem}
 use Rattle.graph_core.specs.Common.{Graph}
-use Rattle.match_search.specs.Forests.{IsForest}
+use Rattle.match_search.specs.Forests.{IsAlternatingForest}
 use Rattle.match_search.specs.Frames.{shrunk_vertex}
 use Rattle.match_search.specs.Mates.{HasMates, with_mate}
 use Rattle.match_search.specs.Instances.{IsInstance, Touches}
@@ -46,7 +46,7 @@ pub record HoldsAlternating (g : Graph) (r f : Set) (mate : List ℕ) (t : Alter
   pub k : ℕ → ℕ
   pub v : ℕ → ℕ → ℕ
   pub e : ℕ → ℕ → ℕ
-  pub forest : IsForest g r f (mem t.outer) (mem t.inner) k v e
+  pub forest : IsAlternatingForest g r f (mem t.outer) (mem t.inner) k v e
   pub parents_long : length t.parent.items ≡ suc g.order
   pub up : (u : ℕ) → mem t.outer u ≡ true → k u ≢ 0 → (p : ℕ) × GoesUp mate t k v u p
 
@@ -84,8 +84,8 @@ abbrev pub IsDone : Instance → AlternatingForest → ℕ → Type 0
 IsDone s t x = (y : ℕ) → Touches s x y → mem s.left y ≡ true → x ≢ y → mem t.inner y ≡ true
 
 -- x is settled: each neighbour of it that is left, except x itself, is inner or active
-abbrev pub IsSettled : Instance → AlternatingForest → ℕ → Type 0
-IsSettled s t x = (y : ℕ) → Touches s x y → mem s.left y ≡ true → x ≢ y → (mem t.inner y ≡ true) ⊎ (mem t.active y ≡ true)
+abbrev pub IsSettledVertex : Instance → AlternatingForest → ℕ → Type 0
+IsSettledVertex s t x = (y : ℕ) → Touches s x y → mem s.left y ≡ true → x ≢ y → (mem t.inner y ≡ true) ⊎ (mem t.active y ≡ true)
 
 -- the instance is g - r, the mates are those of a matching f of it, and the forest is one for f
 -- that can grow on from its active vertices: they are outer, and each other outer vertex is settled
@@ -93,7 +93,7 @@ pub record GrowsForest (g : Graph) (r f : Set) (s : Instance) (mate : List ℕ) 
   pub matching : HoldsMatching g r f s mate
   pub holds : HoldsAlternating g r f mate t
   pub active_outer : (x : ℕ) → mem t.active x ≡ true → mem t.outer x ≡ true
-  pub settled : (x : ℕ) → mem t.outer x ≡ true → mem t.active x ≡ false → IsSettled s t x
+  pub settled : (x : ℕ) → mem t.outer x ≡ true → mem t.active x ≡ false → IsSettledVertex s t x
 
 -- two different outer vertices of the forest that an edge joins
 pub record IsClosingPair (s : Instance) (t : AlternatingForest) (o : Adjacent) : Type 0 where

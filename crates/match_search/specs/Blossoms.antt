@@ -11,7 +11,7 @@ use Rattle.match_search.specs.Instances.{IsInstance}
 use Rattle.match_search.specs.Mates.{HasMates}
 use Rattle.match_search.specs.OddCycles.{listed}
 use Rattle.match_search.specs.Rows.{numbers, part}
-use Rattle.match_search.specs.Steps.{IsOpened, StepAnswer}
+use Rattle.match_search.specs.Steps.{IsOpenedCycle, StepAnswer}
 use Rattle.match_search.specs.declared.answer.Answer.{Answer}
 use Rattle.match_search.specs.declared.alternating.AlternatingForest.{AlternatingForest}
 use Rattle.match_search.specs.declared.growing.Adjacent.{Adjacent}
@@ -66,7 +66,7 @@ pub record HoldsBlossom (g : Graph) (r f : Set) (mate : List ℕ) (b : Blossom) 
   pub members : (v : ℕ) → mem b.members v ≡ listed (blossom_length b) (numbers b.cycle.items) v
   pub m : Set
   pub edge : ℕ → ℕ
-  pub opened : IsOpened g r f m (blossom_length b) (numbers b.cycle.items) edge
+  pub opened : IsOpenedCycle g r f m (blossom_length b) (numbers b.cycle.items) edge
   pub mates : HasMates g r m (numbers mate)
 
 -- each vertex without a mate is in the blossom, or had none before
@@ -102,7 +102,7 @@ pub record MayOpen (g : Graph) (r f m n : Set) (s : Instance) (mate : List ℕ) 
   pub instance_is : IsInstance g r s
   pub long : length mate ≡ suc g.order
   pub edge : ℕ → ℕ
-  pub opened : IsOpened g r f m (blossom_length b) (numbers b.cycle.items) edge
+  pub opened : IsOpenedCycle g r f m (blossom_length b) (numbers b.cycle.items) edge
   pub mates : HasMates (without_blossom g b) (removed_with r b) n (numbers mate)
 
 -- the mates are those of a matching `full` of g - r with |full| + |m| = |n| + |f|: it is larger

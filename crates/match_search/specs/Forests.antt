@@ -27,7 +27,7 @@ pub record IsAlternating (g : Graph) (r f : Set) (k : ℕ) (v e : ℕ → ℕ) :
 
 -- outer vertices, each the end of such a path, and inner vertices, each matched by f to an outer
 -- one
-pub record IsForest (g : Graph) (r f : Set) (outer inner : Set) (k : ℕ → ℕ) (v e : ℕ → ℕ → ℕ) : Type 0 where
+pub record IsAlternatingForest (g : Graph) (r f : Set) (outer inner : Set) (k : ℕ → ℕ) (v e : ℕ → ℕ → ℕ) : Type 0 where
   pub outer_in : (u : ℕ) → outer u ≡ true → Within g.order u × (r u ≡ false)
   pub inner_in : (u : ℕ) → inner u ≡ true → Within g.order u × (r u ≡ false) × (degree g f u ≡ 1)
   pub apart : (u : ℕ) → outer u ≡ true → inner u ≡ false

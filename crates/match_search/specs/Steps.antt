@@ -12,7 +12,7 @@ use Rattle.match_search.specs.declared.answer.Answer.TheVariants.{Grown, Final}
 
 -- m is f with the edges exchanged on the path to an odd cycle, so that its first vertex is missed,
 -- and without the edges at even places of the cycle
-pub record IsOpened (g : Graph) (r f m : Set) (n : ℕ) (c e : ℕ → ℕ) : Type 0 where
+pub record IsOpenedCycle (g : Graph) (r f m : Set) (n : ℕ) (c e : ℕ → ℕ) : Type 0 where
   pub cycle : IsOddCycle g r n c e
   pub stem : Set
   pub matching : IsMatching g r stem

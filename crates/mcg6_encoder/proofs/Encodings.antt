@@ -6,17 +6,17 @@ use Rattle.outside.proofs.Pieces.{appended-nil}
 use Rattle.mcg6_reader.specs.declared.ending.BadLine.{BadLine}
 use Rattle.mcg6_encoder.specs.declared.ending.EncodeEnding.{EncodeEnding}
 use Rattle.mcg6_encoder.specs.declared.ending.EncodeEnding.TheVariants.{Encoded, Bad, ReadFault, WriteFault, Memory}
-use Rattle.mcg6_reader.specs.Common.{Appended, IsLeft}
+use Rattle.mcg6_reader.specs.Common.{Appended, IsKnownLeft}
 use Rattle.mcg6_encoder.specs.Files.{Encodes, NamesTooLong}
 use Rattle.mcg6_encoder.proofs.ReadsSoFar.{some_read}
-use Rattle.mcg6_encoder.specs.Reads.{EncodesFile, IsReadWhole, LeavesMore, ReadsFirst, WritesUpTo}
+use Rattle.mcg6_encoder.specs.Reads.{EncodesFile, IsReadWhole, LeavesMore, ReadsThenWrites, WritesUpTo}
 
 -- the file was read whole, and then written up to an ending
 pub after_read :
     {S K : Type 0} (reads : S → Option (List ℕ) → S → Type 0) (written : K → Option (List ℕ)) (writes : K → List ℕ → ℕ → K → Type 0)
     (file : List ℕ) (ending : EncodeEnding) (source : S) (sink : K) (last_source : S) (last_sink : K) →
     IsReadWhole reads file source last_source → WritesUpTo written writes file ending sink last_sink →
-    ReadsFirst reads written writes ending source sink last_source last_sink
+    ReadsThenWrites reads written writes ending source sink last_source last_sink
 after_read reads written writes file Encoded source sink last_source last_sink read wrote = record { file = file; read = read; wrote = wrote }
 after_read reads written writes file (Bad found) source sink last_source last_sink read wrote =
     inr (record { file = file; read = read; wrote = wrote })
@@ -32,7 +32,7 @@ same_written written sink last same = ap written same ∙ sym (appended-nil (wri
 -- the bytes that were written are those that the file gives
 pub file_encoded :
     {K : Type 0} (written : K → Option (List ℕ)) (writes : K → List ℕ → ℕ → K → Type 0) (file : List ℕ) (ending : EncodeEnding)
-    (left : Option (List ℕ)) (sink last : K) → IsLeft left file → length file ≤ most_bytes → WritesUpTo written writes file ending sink last →
+    (left : Option (List ℕ)) (sink last : K) → IsKnownLeft left file → length file ≤ most_bytes → WritesUpTo written writes file ending sink last →
     EncodesFile ending left (written sink) (written last)
 file_encoded written writes file Encoded left sink last is short wrote = record {
   file = file;
@@ -94,5 +94,5 @@ pub told_file :
     (ending : EncodeEnding) (left before now : Option (List ℕ)) (file : List ℕ) → EncodesFile ending left before now → left ≡ Some file →
     Appended (Encodes file ending) before now
 told_file ending left before now file encodes is =
-    let same : file ≡ encodes.file = subst (λ (o : Option (List ℕ)). IsLeft o encodes.file) is encodes.is_left in
+    let same : file ≡ encodes.file = subst (λ (o : Option (List ℕ)). IsKnownLeft o encodes.file) is encodes.is_left in
     subst (λ (t : List ℕ). Appended (Encodes t ending) before now) (sym same) encodes.encodes

@@ -3,8 +3,8 @@
 -- where they are too many the file is too long.
 use Rattle.std.proofs.Common.{◌≡◌, ◌∙◌, ◌≤◌, ◌<◌, append-nil, ℕ, suc, List, [], ◌++◌, length, refl, sym, subst, ap, arith, Option, Some, None}
 use Rattle.counting.proofs.Common.{length-append}
-use Rattle.outside.specs.Common.{prepended, IsEnd, most_bytes}
-use Rattle.mcg6_reader.specs.Common.{IsLeft}
+use Rattle.outside.specs.Common.{prepended, IsAtEnd, most_bytes}
+use Rattle.mcg6_reader.specs.Common.{IsKnownLeft}
 use Rattle.mcg6_reader.proofs.LeftBytes.{prepended-nil, prepended-prepended, list_ends}
 use Rattle.mcg6_encoder.specs.Reads.{IsReadPast, IsReadSome, IsReadTorn, IsReadWhole, LeavesMore, ReadsGive, most_piece}
 
@@ -44,7 +44,7 @@ read_whole left reads held first now last so_far reading short =
 
 pub left_whole :
     {S : Type 0} (left : S → Option (List ℕ)) (reads : S → Option (List ℕ) → S → Type 0) (held : List ℕ) (first now last : S) →
-    ReadSoFar left reads held first now → left now ≡ prepended [] (left last) → IsEnd (left last) → IsLeft (left first) held
+    ReadSoFar left reads held first now → left now ≡ prepended [] (left last) → IsAtEnd (left last) → IsKnownLeft (left first) held
 left_whole left reads held first now last so_far taken end =
     list_ends (left first) (left last) held (so_far.leaves ∙ ap (prepended held) (taken ∙ prepended-nil (left last))) end
 

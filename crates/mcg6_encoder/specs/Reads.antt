@@ -5,7 +5,7 @@ use Rattle.outside.specs.Common.{appended, IsWritten, IsCutOff, most_bytes}
 use Rattle.mcg6_reader.specs.declared.ending.BadLine.{BadLine}
 use Rattle.mcg6_encoder.specs.declared.ending.EncodeEnding.{EncodeEnding}
 use Rattle.mcg6_encoder.specs.declared.ending.EncodeEnding.TheVariants.{Encoded, Bad, ReadFault, WriteFault, Memory}
-use Rattle.mcg6_reader.specs.Common.{Appended, IsLeft}
+use Rattle.mcg6_reader.specs.Common.{Appended, IsKnownLeft}
 use Rattle.mcg6_encoder.specs.Files.{Encodes, IsEncoded, IsOutside, NamesTooLong}
 
 -- so many reads returned these bytes, one piece after another, and lead from the first source to
@@ -102,20 +102,20 @@ pub record StopsPast {S K : Type 0} (reads : S → Option (List ℕ) → S → T
 -- how the file of a source is encoded to a sink: it is read first, to its end, and the first write
 -- comes after the last read; nothing is written for a file that is bad or could not be read, and if
 -- memory ran out, no read has failed
-abbrev pub ReadsFirst :
+abbrev pub ReadsThenWrites :
     {S K : Type 0} → (S → Option (List ℕ) → S → Type 0) → (K → Option (List ℕ)) → (K → List ℕ → ℕ → K → Type 0) → EncodeEnding → S → K → S → K →
     Type 0
-ReadsFirst reads written writes Encoded source sink last_source last_sink = WritesAfter reads written writes Encoded source sink last_source last_sink
-ReadsFirst reads written writes (Bad found) source sink last_source last_sink =
+ReadsThenWrites reads written writes Encoded source sink last_source last_sink = WritesAfter reads written writes Encoded source sink last_source last_sink
+ReadsThenWrites reads written writes (Bad found) source sink last_source last_sink =
     StopsPast reads found source sink last_source last_sink ⊎ WritesAfter reads written writes (Bad found) source sink last_source last_sink
-ReadsFirst reads written writes ReadFault source sink last_source last_sink = IsReadTorn reads source last_source × (last_sink ≡ sink)
-ReadsFirst reads written writes WriteFault source sink last_source last_sink =
+ReadsThenWrites reads written writes ReadFault source sink last_source last_sink = IsReadTorn reads source last_source × (last_sink ≡ sink)
+ReadsThenWrites reads written writes WriteFault source sink last_source last_sink =
     WritesAfter reads written writes WriteFault source sink last_source last_sink
-ReadsFirst reads written writes Memory source sink last_source last_sink = IsReadSome reads source last_source × (last_sink ≡ sink)
+ReadsThenWrites reads written writes Memory source sink last_source last_sink = IsReadSome reads source last_source × (last_sink ≡ sink)
 
 -- what was written up to the ending is the output of some file: the bytes that were left in the
 -- source, if it makes them known
 pub record EncodesFile (ending : EncodeEnding) (left before now : Option (List ℕ)) : Type 0 where
   pub file : List ℕ
-  pub is_left : IsLeft left file
+  pub is_left : IsKnownLeft left file
   pub encodes : Appended (Encodes file ending) before now

@@ -3,7 +3,7 @@ ghost use Rattle.std.specs.Prelude.{◌≡◌, ◌≢◌, ◌<◌, ◌-◌, ◌^
 ghost use Rattle.outside.specs.Common.{Rose};
 ghost use Rattle.mcg6_reader.specs.Common.{Appended};
 ghost use Rattle.mcg6_encoder.specs.Files.{Encodes};
-ghost use Rattle.mcg6_encoder.specs.Reads.{EncodesFile, ReadsFirst, WritesUpTo};
+ghost use Rattle.mcg6_encoder.specs.Reads.{EncodesFile, ReadsThenWrites, WritesUpTo};
 
 use crate::ending::EncodeEnding;
 use crate::lines::{outside_at, too_long};
@@ -44,7 +44,7 @@ fn write_encoded<K: Sink>(alloc: Global, file: &[u8], sink: &mut K) -> EncodeEnd
 #[tactic(auto, using(crate::proofs::Encodings::no_file, crate::proofs::Encodings::told_file))]
 pub fn encode<S: Source, K: Sink>(alloc: Global, source: &mut S, sink: &mut K) -> EncodeEnding
     // The file is read to its end before the first write; nothing is written for a bad file.
-    ensures reads_first { ReadsFirst S.reads K.written K.writes result source.old sink.old
+    ensures reads_first { ReadsThenWrites S.reads K.written K.writes result source.old sink.old
         source.new sink.new }
     // The output is what the file gives up to this ending, in whatever pieces it was read.
     ensures encodes { (file : List ℕ) → S.left source.old ≡ Some file

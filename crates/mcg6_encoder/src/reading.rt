@@ -1,7 +1,7 @@
 //! Reading a file from a source.
 ghost use Rattle.std.specs.Prelude.{◌≡◌, ◌<◌, ◌≤◌, ℕ, IfOk, IfErr, IsErrOf, length};
 ghost use Rattle.outside.specs.Common.{Rose};
-ghost use Rattle.mcg6_reader.specs.Common.{IsLeft};
+ghost use Rattle.mcg6_reader.specs.Common.{IsKnownLeft};
 ghost use Rattle.mcg6_encoder.specs.Reads.{IsReadPast, IsReadSome, IsReadTorn, IsReadWhole, LeavesMore, most_piece};
 
 use outside::{MOST_BYTES, Source};
@@ -26,7 +26,7 @@ pub enum Unread {
 pub fn read_file<S: Source>(alloc: Global, source: &mut S) -> Result<Vec<u8>, Unread>
     ensures whole { IfOk result
         (λ bytes. IsReadWhole S.reads bytes.items source.old source.new) }
-    ensures left { IfOk result (λ bytes. IsLeft (S.left source.old) bytes.items) }
+    ensures left { IfOk result (λ bytes. IsKnownLeft (S.left source.old) bytes.items) }
     ensures past { IsErrOf result Unread.TooLong → IsReadPast S.reads source.old source.new }
     ensures more { IsErrOf result Unread.TooLong → LeavesMore (S.left source.old) }
     ensures torn { IsErrOf result Unread.Failed → IsReadTorn S.reads source.old source.new }

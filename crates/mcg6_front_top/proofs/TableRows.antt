@@ -13,7 +13,7 @@ use Rattle.mcg6_lines.specs.declared.query.Property.TheVariants.{Bricks, Braces}
 use Rattle.mcg6_lines.specs.declared.query.Query.{Query}
 use Rattle.mcg6_lines.specs.declared.query.Query.TheVariants.{Kinds, Leaves, Elementary, Graph, Select}
 use Rattle.mcg6_top.specs.Common.{ListCommand, asks_skip, command_if, command_of, command_or, list_command_of, command_with, counted_property, encode_of, leaves_named, may_skip, pair_command, property_named, query_named, select_named}
-use Rattle.command_table.specs.Rows.{fit_optional, is_counted, is_listed, is_one_of}
+use Rattle.command_table.specs.Rows.{fit_optional, is_counted, matches_a_row, is_one_of}
 use Rattle.command_table.specs.Table.{counted_properties, file, list_rows, orders, properties, skip_file}
 
 -- the word of an order
@@ -212,7 +212,7 @@ one_word false false true g = refl
 one_word false false false true = refl
 one_word false false false false = refl
 
-listed_one : (words : List (List ℕ)) → (is_some (list_command_of words) || is_some (encode_of words)) ≡ is_listed list_rows words
+listed_one : (words : List (List ℕ)) → (is_some (list_command_of words) || is_some (encode_of words)) ≡ matches_a_row list_rows words
 unfolding list_rows
 listed_one [] = refl
 listed_one (w ∷ []) =
@@ -242,5 +242,5 @@ one_of (Some name) (Some list) = refl
 one_of None None = refl
 one_of None (Some list) = refl
 
-pub listed : (words : List (List ℕ)) → is_some (command_of words) ≡ is_listed list_rows words
+pub listed : (words : List (List ℕ)) → is_some (command_of words) ≡ matches_a_row list_rows words
 listed words = one_of (encode_of words) (list_command_of words) ∙ listed_one words

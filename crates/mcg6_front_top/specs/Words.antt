@@ -84,12 +84,12 @@ ending_words (Answered list end) clues = skipped_words end.skipped.items ++ list
 ending_words (Encoded file ending) clues = file_words file.now ending clues
 
 -- what is said of a run of these words that ended so, or of words that match no row
-abbrev pub words_of : (words : List (List ℕ)) → Option RunEnd → Clues → List ℕ
-words_of words None clues = unmatched_text Mcg6 words
-words_of words (Some end) clues = ending_words end clues
+abbrev pub run_words : (words : List (List ℕ)) → Option RunEnd → Clues → List ℕ
+run_words words None clues = unmatched_text Mcg6 words
+run_words words (Some end) clues = ending_words end clues
 
 -- what is said of a run of these words: of an answer that could not be written whole, or of this end
 abbrev pub message_words : (words : List (List ℕ)) → Message → Clues → List ℕ
 message_words words message.Nothing clues = []
 message_words words message.Lost clues = lost_words
-message_words words (message.Ending end) clues = words_of words end clues
+message_words words (message.Ending end) clues = run_words words end clues

@@ -1,11 +1,11 @@
 //! The law of the table of commands. It is the contract of a function that does nothing.
 ghost use Rattle.std.specs.Prelude.{◌≡◌, ℕ, List, is_some};
-ghost use Rattle.command_table.specs.Rows.{is_listed};
+ghost use Rattle.command_table.specs.Rows.{matches_a_row};
 ghost use Rattle.command_table.specs.Table.{list_rows};
 ghost use Rattle.mcg6_top.specs.Common.{command_of};
 
 /// The rows of the table, of which the usage is made, are exactly the words that ask for something
 /// of a list, or for the graph6 text of a graph file.
 pub fn list_table_law()
-    ensures { (words : List (List ℕ)) → is_some (command_of words) ≡ is_listed list_rows words }
+    ensures { (words : List (List ℕ)) → is_some (command_of words) ≡ matches_a_row list_rows words }
 {}

@@ -3,7 +3,7 @@ ghost use Rattle.std.specs.Prelude.{◌≡◌, ◌++◌, []};
 ghost use Rattle.std.specs.Option.{option_map};
 ghost use Rattle.front_words.specs.Saying.{Says};
 ghost use Rattle.mcg6_top.specs.Common.{status_in, text_of};
-ghost use Rattle.mcg6_front_top.specs.Words.{bad_graph_words, beginning_of, file_words, list_words, lost_words, memory_words, nothing_words, skipped_words, unwritten_words, words_of};
+ghost use Rattle.mcg6_front_top.specs.Words.{bad_graph_words, beginning_of, file_words, list_words, lost_words, memory_words, nothing_words, skipped_words, unwritten_words, run_words};
 
 use crate::clues::Clues;
 use crate::skipping::say_skipped;
@@ -45,7 +45,7 @@ pub fn say_ending<E: Sink>(
     end: &Option<RunEnd<'_>>,
     clues: Clues,
 ) -> Said
-    ensures { Says E.written E.writes E.faults (words_of line.now end.now clues) result errors.old
+    ensures { Says E.written E.writes E.faults (run_words line.now end.now clues) result errors.old
         errors.new }
 {
     match end {

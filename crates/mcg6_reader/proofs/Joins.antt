@@ -6,7 +6,7 @@ use Rattle.mcg6_reader.specs.declared.ending.BadLine.{BadLine}
 use Rattle.mcg6_reader.specs.declared.ending.Ending.{Ending}
 use Rattle.mcg6_reader.specs.declared.ending.Ending.TheVariants.{Done, Bad, ReadFault, WriteFault, Memory}
 use Rattle.mcg6_reader.specs.declared.place.LinePlace.{LinePlace}
-use Rattle.mcg6_reader.specs.Common.{place_after, place_behind, LineTold, NamesBad, AllTold, BeginningTold, WholeTold, HasBadLine, LacksLine, ToldToBad, CutShort, Gives}
+use Rattle.mcg6_reader.specs.Common.{place_after, place_behind, LineTold, NamesBad, AllTold, BeginningTold, WholeTold, HasBadLine, LacksLine, ToldToBad, CutShort, GivesOutput}
 
 pub place_behind-append : (n : LinePlace) (xs ys : List (List ℕ)) → place_behind n (xs ++ ys) ≡ place_behind (place_behind n xs) ys
 place_behind-append n [] ys = refl
@@ -119,12 +119,12 @@ WholeTold-behind tells lacks n xs ys a b told behind = record {
 }
 
 -- lines that have been processed, and the output of the lines after them
-pub Gives-behind :
+pub GivesOutput-behind :
     {A : Type 0} (tells : LinePlace → List ℕ → List A → Type 0) (bad : LinePlace → List ℕ → FaultKind → Type 0) (lacks : ℕ → Option FaultKind) (n : LinePlace)
     (xs ys : List (List ℕ)) (a b : List A) (ending : Ending) →
-    AllTold tells n xs a → Gives tells bad lacks (place_behind n xs) ys ending b → Gives tells bad lacks n (xs ++ ys) ending (a ++ b)
-Gives-behind tells bad lacks n xs ys a b Done told behind = WholeTold-behind tells lacks n xs ys a b told behind
-Gives-behind tells bad lacks n xs ys a b (Bad found) told behind = ToldToBad-behind tells bad lacks n xs ys found a b told behind
-Gives-behind tells bad lacks n xs ys a b ReadFault told behind = BeginningTold-behind tells n xs ys a b told behind
-Gives-behind tells bad lacks n xs ys a b WriteFault told behind = CutShort-behind tells n xs ys a b told behind
-Gives-behind tells bad lacks n xs ys a b Memory told behind = BeginningTold-behind tells n xs ys a b told behind
+    AllTold tells n xs a → GivesOutput tells bad lacks (place_behind n xs) ys ending b → GivesOutput tells bad lacks n (xs ++ ys) ending (a ++ b)
+GivesOutput-behind tells bad lacks n xs ys a b Done told behind = WholeTold-behind tells lacks n xs ys a b told behind
+GivesOutput-behind tells bad lacks n xs ys a b (Bad found) told behind = ToldToBad-behind tells bad lacks n xs ys found a b told behind
+GivesOutput-behind tells bad lacks n xs ys a b ReadFault told behind = BeginningTold-behind tells n xs ys a b told behind
+GivesOutput-behind tells bad lacks n xs ys a b WriteFault told behind = CutShort-behind tells n xs ys a b told behind
+GivesOutput-behind tells bad lacks n xs ys a b Memory told behind = BeginningTold-behind tells n xs ys a b told behind

@@ -5,7 +5,7 @@ use Rattle.std.proofs.Common.{◌≡◌, inl, inr, ℕ, suc, ◌+◌, ◌<◌, �
 use Rattle.std.specs.List.{onto_first, position_or_len}
 use Rattle.std.proofs.lemmas.Bool.{cases_Bool, cases_lt}
 use Rattle.std.proofs.lemmas.Bool.Decides.{nat_tests}
-use Rattle.mcg6_reader.specs.Common.{is_line_feed, lines_of, HasNoFeed, IsClosed, IsFirstLine}
+use Rattle.mcg6_reader.specs.Common.{is_line_feed, lines_of, HasNoFeed, IsClosedText, IsFirstLine}
 
 pub lines_of-nil : lines_of [] ≡ []
 unfolding lines_of
@@ -59,21 +59,21 @@ lines_of-fed (byte ∷ front) more = elim (cases_Bool (is_line_feed byte)) [
 ]
 
 -- after a text that a line feed ends, lines begin anew
-pub lines_of-closed : (text more : List ℕ) → IsClosed text → lines_of (text ++ more) ≡ lines_of text ++ lines_of more
+pub lines_of-closed : (text more : List ℕ) → IsClosedText text → lines_of (text ++ more) ≡ lines_of text ++ lines_of more
 lines_of-closed text more (inl empty) = grind (arith, lines_of-nil)
 lines_of-closed text more (inr (front, fed)) =
     subst (λ (t : List ℕ). lines_of (t ++ more) ≡ lines_of t ++ lines_of more) (sym fed) (lines_of-fed front more)
 
-pub IsClosed-append : (first second : List ℕ) → IsClosed first → IsClosed second → IsClosed (first ++ second)
-IsClosed-append first second one h = grind (arith, append-nil first, append_assoc first)
+pub IsClosedText-append : (first second : List ℕ) → IsClosedText first → IsClosedText second → IsClosedText (first ++ second)
+IsClosedText-append first second one h = grind (arith, append-nil first, append_assoc first)
 
 -- a text whose first byte is a line feed
 IsFirstLine-feed : (byte : ℕ) (text : List ℕ) → is_line_feed byte ≡ true → IsFirstLine (byte ∷ text) (byte ∷ []) text
 IsFirstLine-feed byte text feed = grind (arith, lines_of-feed byte, lines_of-nil, feed-is byte feed)
 
-IsClosed-cons : (byte : ℕ) (line : List ℕ) → lines_of line ≡ line ∷ [] → IsClosed line → IsClosed (byte ∷ line)
-IsClosed-cons byte line alone (inl empty) = cc (ap lines_of empty, lines_of-nil)
-IsClosed-cons byte line alone (inr (front, fed)) = inr (byte ∷ front, ap (λ (t : List ℕ). byte ∷ t) fed)
+IsClosedText-cons : (byte : ℕ) (line : List ℕ) → lines_of line ≡ line ∷ [] → IsClosedText line → IsClosedText (byte ∷ line)
+IsClosedText-cons byte line alone (inl empty) = cc (ap lines_of empty, lines_of-nil)
+IsClosedText-cons byte line alone (inr (front, fed)) = inr (byte ∷ front, ap (λ (t : List ℕ). byte ∷ t) fed)
 
 -- a text whose first byte is not a line feed
 IsFirstLine-byte :
@@ -82,7 +82,7 @@ IsFirstLine-byte :
 IsFirstLine-byte byte text line behind other first = record {
   whole = ap (λ (t : List ℕ). byte ∷ t) first.whole;
   alone = lines_of-byte byte line other ∙ ap (onto_first byte) first.alone;
-  closed = IsClosed-cons byte line first.alone first.closed;
+  closed = IsClosedText-cons byte line first.alone first.closed;
   shorter = let less = first.shorter in omega arith;
 }
 

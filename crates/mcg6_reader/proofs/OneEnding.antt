@@ -9,7 +9,7 @@ use Rattle.outside.specs.Common.{most_line}
 use Rattle.line_text.specs.declared.faults.FaultKind.{FaultKind}
 use Rattle.mcg6_reader.specs.declared.ending.BadLine.{BadLine}
 use Rattle.mcg6_reader.specs.declared.place.LinePlace.{LinePlace}
-use Rattle.mcg6_reader.specs.Common.{is_header, place_after, place_behind, LineTold, LineBad, AllTold, HasBadLine, HasOneFault, HasOneOutput, LacksLine, TellsApart, ToldToBad, WholeTold}
+use Rattle.mcg6_reader.specs.Common.{is_header, place_after, place_behind, LineTold, LineBad, AllTold, HasBadLine, HasOneFault, HasOneOutputPerLine, LacksLine, TellsApart, ToldToBad, WholeTold}
 use Rattle.mcg6_reader.proofs.OneOutput.{one_output}
 
 -- a header is one of three texts
@@ -76,7 +76,7 @@ module _ (tells : LinePlace → List ℕ → List ℕ → Type 0) (bad : LinePla
       (subst (λ (ls : List (List ℕ)). AllTold tells place ls b) stops.cut ends.told) stops.named.bad_line
 
   -- the first bad line is unique, and so is the output before it
-  module _ (one : HasOneOutput tells) (one_fault : HasOneFault bad) where
+  module _ (one : HasOneOutputPerLine tells) (one_fault : HasOneFault bad) where
     first_bad_once :
         (place : LinePlace) (lines : List (List ℕ)) (found other : BadLine) (a b : List ℕ) →
         HasBadLine tells bad place lines found a → HasBadLine tells bad place lines other b →

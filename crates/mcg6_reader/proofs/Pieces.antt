@@ -9,8 +9,8 @@ use Rattle.mcg6_reader.specs.declared.ending.Ending.TheVariants.{Bad}
 use Rattle.mcg6_reader.specs.declared.ending.ListStop.{ListStop}
 use Rattle.mcg6_reader.specs.declared.ending.ListStop.TheVariants as stop
 use Rattle.mcg6_reader.specs.declared.place.LinePlace.{LinePlace}
-use Rattle.mcg6_reader.specs.Common.{is_header, lines_of, HasNoFeed, IsFirstLine, place_after, place_behind, LineTold, NamesBad, IsFound, IfBad, AllTold, BeginningTold, HasBadLine, ToldToBad, Added, ToldThrough, StopsWith}
-use Rattle.mcg6_reader.proofs.LineCuts.{lines_of-nil, lines_of-closed, lines_of-last, lines_of-begun, IsClosed-append}
+use Rattle.mcg6_reader.specs.Common.{is_header, lines_of, HasNoFeed, IsFirstLine, place_after, place_behind, LineTold, NamesBad, IsReportOn, IfBad, AllTold, BeginningTold, HasBadLine, ToldToBad, Added, ToldThrough, StopsWith}
+use Rattle.mcg6_reader.proofs.LineCuts.{lines_of-nil, lines_of-closed, lines_of-last, lines_of-begun, IsClosedText-append}
 use Rattle.mcg6_reader.proofs.Joins.{place_behind-append, AllTold-append, AllTold-one, HasBadLine-first, HasBadLine-behind}
 
 -- just the header has an empty output
@@ -29,7 +29,7 @@ told_line tells n line bytes before now other short told more = record { more = 
 -- a line that is too long is bad
 pub names_long :
     (bad : LinePlace → List ℕ → FaultKind → Type 0) (n : LinePlace) (line : List ℕ) (why : ListStop) →
-    most_line < length line → IfBad (IsFound n.number Limit line) why → IfBad (NamesBad bad n line) why
+    most_line < length line → IfBad (IsReportOn n.number Limit line) why → IfBad (NamesBad bad n line) why
 names_long bad n line stop.Memory long found = tt
 names_long bad n line (stop.Bad bad_line) long found = record {
   bad_line = inl (long, found.of_kind);
@@ -40,7 +40,7 @@ names_long bad n line (stop.Bad bad_line) long found = record {
 -- a line in which the teller finds an error is bad
 pub names_bad :
     (bad : LinePlace → List ℕ → FaultKind → Type 0) (n : LinePlace) (line : List ℕ) (kind : FaultKind) (why : ListStop) →
-    IsFalse (is_header n.number line) → length line ≤ most_line → bad n line kind → IfBad (IsFound n.number kind line) why →
+    IsFalse (is_header n.number line) → length line ≤ most_line → bad n line kind → IfBad (IsReportOn n.number kind line) why →
     IfBad (NamesBad bad n line) why
 names_bad bad n line kind stop.Memory other short is found = tt
 names_bad bad n line kind (stop.Bad bad_line) other short is found = record {
@@ -82,7 +82,7 @@ through_more {A} tells n k next text rest line behind a b c so_far first after o
             so_far.right.cut
             ∙ ap (λ (t : List ℕ). whole ++ t) first.whole
             ∙ sym (append_assoc whole line behind);
-        closed = IsClosed-append whole line so_far.right.closed first.closed;
+        closed = IsClosedText-append whole line so_far.right.closed first.closed;
         told =
             subst (λ (ls : List (List ℕ)). AllTold tells n ls (so_far.more ++ one.more)) (sym lines)
             (AllTold-append tells n (lines_of whole) (line ∷ []) so_far.more one.more so_far.right.told
@@ -122,7 +122,7 @@ opens_first bad n rest line behind tail found first named = record {
 -- a line that is too long, before its end was read
 opens_long :
     (bad : LinePlace → List ℕ → FaultKind → Type 0) (n : LinePlace) (rest tail : List ℕ) (found : BadLine) →
-    HasNoFeed rest → most_line < length rest → IsFound n.number Limit rest found → OpensBad bad n (rest ++ tail) found
+    HasNoFeed rest → most_line < length rest → IsReportOn n.number Limit rest found → OpensBad bad n (rest ++ tail) found
 opens_long bad n rest tail found none long is =
     let some : 0 < length rest = omega arith in
     let begun = lines_of-begun rest tail none some in
@@ -192,7 +192,7 @@ pub through_long :
     {A : Type 0} (tells : LinePlace → List ℕ → List A → Type 0) (bad : LinePlace → List ℕ → FaultKind → Type 0) (lacks : ℕ → Option FaultKind) (n k : LinePlace)
     (text rest : List ℕ) (a b : List A) (why : ListStop) →
     Added (ToldThrough tells n text rest k) a b → HasNoFeed rest → most_line < length rest →
-    IfBad (IsFound k.number Limit rest) why → IfBad (λ found. Added (StopsWith tells bad lacks n text (Bad found)) a b) why
+    IfBad (IsReportOn k.number Limit rest) why → IfBad (λ found. Added (StopsWith tells bad lacks n text (Bad found)) a b) why
 through_long tells bad lacks n k text rest a b stop.Memory so_far none long is = tt
 through_long tells bad lacks n k text rest a b (stop.Bad found) so_far none long is =
     through_bad tells bad lacks n k text rest a b found so_far (λ tail. opens_long bad k rest tail found none long is)
@@ -252,7 +252,7 @@ pub lacking_bad :
     {A : Type 0} (tells : LinePlace → List ℕ → List A → Type 0) (bad : LinePlace → List ℕ → FaultKind → Type 0) (lacks : ℕ → Option FaultKind)
     (n next : LinePlace) (lines : List (List ℕ)) (kind : FaultKind) (before now : List A) (why : ListStop) →
     Added (AllTold tells n lines) before now → next ≡ place_behind n lines → lacks next.graphs ≡ Some kind →
-    IfBad (IsFound next.number kind []) why → IfBad (λ found. Added (ToldToBad tells bad lacks n lines found) before now) why
+    IfBad (IsReportOn next.number kind []) why → IfBad (λ found. Added (ToldToBad tells bad lacks n lines found) before now) why
 lacking_bad tells bad lacks n next lines kind before now stop.Memory told at missing is = tt
 lacking_bad tells bad lacks n next lines kind before now (stop.Bad found) told at missing is = record {
   more = told.more;

@@ -3,16 +3,16 @@
 -- list give there.
 use Rattle.std.proofs.Common.{◌≡◌, inl, ℕ, suc, ◌≤◌, List, [], ◌++◌, length, refl, sym, subst, ◌∙◌, ap, arith, append_assoc, append-nil, Option, Some}
 use Rattle.std.proofs.lemmas.List.{append_cancel_right}
-use Rattle.outside.specs.Common.{appended, prepended, IsEnd, most_line}
+use Rattle.outside.specs.Common.{appended, prepended, IsAtEnd, most_line}
 use Rattle.outside.proofs.Pieces.{appended-nil, appended-appended}
 use Rattle.line_text.specs.declared.faults.FaultKind.{FaultKind}
 use Rattle.mcg6_reader.specs.declared.ending.BadLine.{BadLine}
 use Rattle.mcg6_reader.specs.declared.ending.Ending.{Ending}
 use Rattle.mcg6_reader.specs.declared.ending.Ending.TheVariants.{Memory}
 use Rattle.mcg6_reader.specs.declared.place.LinePlace.{LinePlace}
-use Rattle.mcg6_reader.specs.Common.{lines_of, HasNoFeed, IsClosed, AllTold, BeginningTold, first_place, place_behind, Gives, Reported, ReportsWith, Added, Appended, ToldThrough, StopsWith, TellsList, ReadsTold, Wrote, WroteUpTo, Steps}
-use Rattle.mcg6_reader.proofs.LineCuts.{lines_of-nil, lines_of-closed, IsClosed-append}
-use Rattle.mcg6_reader.proofs.Joins.{place_behind-append, AllTold-append, BeginningTold-none, Gives-behind}
+use Rattle.mcg6_reader.specs.Common.{lines_of, HasNoFeed, IsClosedText, AllTold, BeginningTold, first_place, place_behind, GivesOutput, Reported, ReportsWith, Added, Appended, ToldThrough, StopsWith, TellsList, ReadsTold, Wrote, WroteUpTo, Steps}
+use Rattle.mcg6_reader.proofs.LineCuts.{lines_of-nil, lines_of-closed, IsClosedText-append}
+use Rattle.mcg6_reader.proofs.Joins.{place_behind-append, AllTold-append, BeginningTold-none, GivesOutput-behind}
 use Rattle.mcg6_reader.proofs.Skips.{Reported-behind}
 use Rattle.mcg6_reader.proofs.Stages.{steps_more, wrote_appended}
 use Rattle.mcg6_reader.proofs.LeftBytes.{prepended-nil, list_is, list_ends, piece_read}
@@ -24,7 +24,7 @@ pub record SoFar {S K : Type 0} (tells : LinePlace → List ℕ → List ℕ →
   pub output : List ℕ
   pub count : ℕ
   pub leaves : left source ≡ prepended (whole ++ held) (left now_source)
-  pub closed : IsClosed whole
+  pub closed : IsClosedText whole
   pub told : AllTold tells first_place (lines_of whole) output
   pub reported : Added (AllTold reports first_place (lines_of whole)) founds now_founds
   pub at : place ≡ place_behind first_place (lines_of whole)
@@ -82,7 +82,7 @@ module _ {S K : Type 0} {tells : LinePlace → List ℕ → List ℕ → Type 0}
       lines_of-closed whole through.whole so_far.closed in
       let joined : whole ++ (held ++ piece) ≡ (whole ++ through.whole) ++ more_held =
       ap (λ (t : List ℕ). whole ++ t) through.cut ∙ sym (append_assoc whole through.whole more_held) in
-      let closed = IsClosed-append whole through.whole so_far.closed through.closed in
+      let closed = IsClosedText-append whole through.whole so_far.closed through.closed in
       let more_told =
       subst (λ (p : LinePlace). AllTold tells p (lines_of through.whole) more.output) so_far.at through.told in
       let told =
@@ -158,12 +158,12 @@ module _ {S K : Type 0} {tells : LinePlace → List ℕ → List ℕ → Type 0}
 
   module _ (bad : LinePlace → List ℕ → FaultKind → Type 0) (lacks : ℕ → Option FaultKind) (ending : Ending) where
     -- the output of the lines after the processed ones is that of the list
-    pub gives_behind : (rest output : List ℕ) → Gives tells bad lacks place (lines_of rest) ending output → Gives tells bad lacks first_place (lines_of (so_far.whole ++ rest)) ending (so_far.output ++ output)
+    pub gives_behind : (rest output : List ℕ) → GivesOutput tells bad lacks place (lines_of rest) ending output → GivesOutput tells bad lacks first_place (lines_of (so_far.whole ++ rest)) ending (so_far.output ++ output)
     gives_behind rest output gives =
-        subst (λ (ls : List (List ℕ)). Gives tells bad lacks first_place ls ending (so_far.output ++ output))
+        subst (λ (ls : List (List ℕ)). GivesOutput tells bad lacks first_place ls ending (so_far.output ++ output))
         (sym (lines_of-closed so_far.whole rest so_far.closed))
-        (Gives-behind tells bad lacks first_place (lines_of so_far.whole) (lines_of rest) so_far.output output ending so_far.told
-        (subst (λ (p : LinePlace). Gives tells bad lacks p (lines_of rest) ending output) so_far.at gives))
+        (GivesOutput-behind tells bad lacks first_place (lines_of so_far.whole) (lines_of rest) so_far.output output ending so_far.told
+        (subst (λ (p : LinePlace). GivesOutput tells bad lacks p (lines_of rest) ending output) so_far.at gives))
 
     -- and so are the reports on them
     reported_behind : (rest : List ℕ) (last_founds : List BadLine) → Added (Reported reports bad lacks place (lines_of rest) ending) now_founds last_founds → Added (Reported reports bad lacks first_place (lines_of (so_far.whole ++ rest)) ending) founds last_founds
@@ -199,7 +199,7 @@ module _ {S K : Type 0} {tells : LinePlace → List ℕ → List ℕ → Type 0}
           gives = record {
             output = so_far.output ++ stops.output;
             right =
-                subst (λ (t : List ℕ). Gives tells bad lacks first_place (lines_of t) ending (so_far.output ++ stops.output)) joined
+                subst (λ (t : List ℕ). GivesOutput tells bad lacks first_place (lines_of t) ending (so_far.output ++ stops.output)) joined
                 (gives_behind ((held ++ piece) ++ list.rest) stops.output (stops.right list.rest));
             written = written_behind (written sink) (written now_sink) (written last_sink) so_far.output stops.output so_far.wrote stops.written;
           };
@@ -210,13 +210,13 @@ module _ {S K : Type 0} {tells : LinePlace → List ℕ → List ℕ → Type 0}
         }
 
     -- the list ended
-    pub so_far_end : (last_source : S) (last_sink : K) (last_founds : List BadLine) → left now_source ≡ prepended [] (left last_source) → IsEnd (left last_source) →
-        WroteUpTo written writes (Gives tells bad lacks place (lines_of held)) ending now_sink last_sink →
+    pub so_far_end : (last_source : S) (last_sink : K) (last_founds : List BadLine) → left now_source ≡ prepended [] (left last_source) → IsAtEnd (left last_source) →
+        WroteUpTo written writes (GivesOutput tells bad lacks place (lines_of held)) ending now_sink last_sink →
         Added (Reported reports bad lacks place (lines_of held) ending) now_founds last_founds →
         TellsList tells bad lacks reports ending (left source) (written sink) (written last_sink) founds last_founds
     so_far_end last_source last_sink last_founds taken end wrote reported =
         let same : left now_source ≡ left last_source = taken ∙ prepended-nil (left last_source) in
-        let gives = wrote_appended written writes (Gives tells bad lacks place (lines_of held)) (BeginningTold-none tells place (lines_of held))
+        let gives = wrote_appended written writes (GivesOutput tells bad lacks place (lines_of held)) (BeginningTold-none tells place (lines_of held))
         ending now_sink last_sink wrote in
         record {
           bytes = so_far.whole ++ held;
@@ -232,7 +232,7 @@ module _ {S K : Type 0} {tells : LinePlace → List ℕ → List ℕ → Type 0}
         }
 
     -- the processing stopped there, with an ending that asks for no more than a beginning
-    pub so_far_begun : ((lines : List (List ℕ)) (output : List ℕ) → BeginningTold tells first_place lines output → Gives tells bad lacks first_place lines ending output) →
+    pub so_far_begun : ((lines : List (List ℕ)) (output : List ℕ) → BeginningTold tells first_place lines output → GivesOutput tells bad lacks first_place lines ending output) →
         ((lines : List (List ℕ)) (more : List BadLine) → BeginningTold reports first_place lines more → Reported reports bad lacks first_place lines ending more) →
         TellsList tells bad lacks reports ending (left source) (written sink) (written now_sink) founds now_founds
     so_far_begun enough enough_reported =

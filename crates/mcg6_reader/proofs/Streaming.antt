@@ -5,7 +5,7 @@ use Rattle.line_text.specs.declared.faults.FaultKind.{FaultKind}
 use Rattle.mcg6_reader.specs.declared.ending.BadLine.{BadLine}
 use Rattle.mcg6_reader.specs.declared.ending.Ending.{Ending}
 use Rattle.mcg6_reader.specs.declared.place.LinePlace.{LinePlace}
-use Rattle.mcg6_reader.specs.Common.{lines_of, Gives, StopsWith, WroteUpTo, Ends, IsStream, GivesAfter}
+use Rattle.mcg6_reader.specs.Common.{lines_of, GivesOutput, StopsWith, WroteUpTo, Ends, IsStream, GivesAfter}
 use Rattle.mcg6_reader.proofs.Stages.{wrote_otherwise}
 use Rattle.mcg6_reader.proofs.Readings.{SoFar, gives_behind}
 
@@ -16,7 +16,7 @@ module _ {S K : Type 0} {tells : LinePlace → List ℕ → List ℕ → Type 0}
   stops_after piece ending output stops rest follows = grind (arith, append_assoc, gives_behind so_far bad lacks ending ((held ++ piece) ++ rest) output (stops rest))
 
   -- what the last lines give is what the list gives, since nothing follows them
-  end_after : (ending : Ending) (output : List ℕ) → Gives tells bad lacks place (lines_of held) ending output →
+  end_after : (ending : Ending) (output : List ℕ) → GivesOutput tells bad lacks place (lines_of held) ending output →
       GivesAfter tells bad lacks (so_far.whole ++ held) [] so_far.output ending output
   end_after ending output gives rest follows = grind (arith, append-nil, gives_behind so_far bad lacks ending held output gives)
 
@@ -51,6 +51,6 @@ module _ {S K : Type 0} {tells : LinePlace → List ℕ → List ℕ → Type 0}
 
     -- they end at the end of the list
     pub stream_end : reads now_source (Some []) last_source →
-        WroteUpTo written writes (Gives tells bad lacks place (lines_of held)) ending now_sink last_sink →
+        WroteUpTo written writes (GivesOutput tells bad lacks place (lines_of held)) ending now_sink last_sink →
         IsStream tells bad lacks reads written writes ending source sink last_source last_sink
     stream_end reading wrote = grind (arith, stream_begun, wrote_otherwise, end_after)

@@ -9,19 +9,19 @@ use Rattle.mcg6_reader.specs.declared.ending.BadLine.{BadLine}
 use Rattle.mcg6_reader.specs.declared.ending.ListStop.{ListStop}
 use Rattle.mcg6_reader.specs.declared.ending.ListStop.TheVariants as stop
 use Rattle.mcg6_reader.specs.declared.place.LinePlace.{LinePlace}
-use Rattle.mcg6_reader.specs.Lines.{lines_of, HasNoFeed, IsClosed}
+use Rattle.mcg6_reader.specs.Lines.{lines_of, HasNoFeed, IsClosedText}
 use Rattle.mcg6_reader.specs.Lists.{AllTold, BeginningTold, WholeTold, ToldToBad, CutShort}
 use Rattle.mcg6_reader.specs.Places.{first_place, place_behind}
 
 -- the output of lines up to an ending, where the first line is at that place
-abbrev pub Gives :
+abbrev pub GivesOutput :
     {A : Type 0} → (LinePlace → List ℕ → List A → Type 0) → (LinePlace → List ℕ → FaultKind → Type 0) → (ℕ → Option FaultKind) → LinePlace → List (List ℕ) → Ending →
     List A → Type 0
-Gives tells bad lacks place lines Done output = WholeTold tells lacks place lines output
-Gives tells bad lacks place lines (Bad found) output = ToldToBad tells bad lacks place lines found output
-Gives tells bad lacks place lines ReadFault output = BeginningTold tells place lines output
-Gives tells bad lacks place lines WriteFault output = CutShort tells place lines output
-Gives tells bad lacks place lines Memory output = BeginningTold tells place lines output
+GivesOutput tells bad lacks place lines Done output = WholeTold tells lacks place lines output
+GivesOutput tells bad lacks place lines (Bad found) output = ToldToBad tells bad lacks place lines found output
+GivesOutput tells bad lacks place lines ReadFault output = BeginningTold tells place lines output
+GivesOutput tells bad lacks place lines WriteFault output = CutShort tells place lines output
+GivesOutput tells bad lacks place lines Memory output = BeginningTold tells place lines output
 
 -- the reports on the skipped lines of a list up to an ending, where the first line is at that place:
 -- on all of them, or on those before the bad line at which it ended, and else on those of an initial
@@ -65,7 +65,7 @@ pub record WholeLinesTold (tells : LinePlace → List ℕ → List ℕ → Type 
   pub whole : List ℕ
   pub part : List ℕ
   pub cut : read ≡ whole ++ part
-  pub closed : IsClosed whole
+  pub closed : IsClosedText whole
   pub no_feed : HasNoFeed part
   pub short : length part ≤ most_line
   pub told : AllTold tells first_place (lines_of whole) output
@@ -75,7 +75,7 @@ pub record WholeLinesTold (tells : LinePlace → List ℕ → List ℕ → Type 
 pub record ToldThrough {A : Type 0} (tells : LinePlace → List ℕ → List A → Type 0) (before : LinePlace) (text left : List ℕ) (now : LinePlace) (output : List A) : Type 0 where
   pub whole : List ℕ
   pub cut : text ≡ whole ++ left
-  pub closed : IsClosed whole
+  pub closed : IsClosedText whole
   pub told : AllTold tells before (lines_of whole) output
   pub place : now ≡ place_behind before (lines_of whole)
 
@@ -85,7 +85,7 @@ abbrev pub StopsWith :
     {A : Type 0} → (LinePlace → List ℕ → List A → Type 0) → (LinePlace → List ℕ → FaultKind → Type 0) → (ℕ → Option FaultKind) → LinePlace → (text : List ℕ) → Ending →
     List A → Type 0
 StopsWith tells bad lacks place text ending output =
-    (rest : List ℕ) → Gives tells bad lacks place (lines_of (text ++ rest)) ending output
+    (rest : List ℕ) → GivesOutput tells bad lacks place (lines_of (text ++ rest)) ending output
 
 -- bytes with this property were written completely, and nothing else
 pub record Wrote {K : Type 0} (written : K → Option (List ℕ)) (writes : K → List ℕ → ℕ → K → Type 0) (holds : List ℕ → Type 0) (first last : K) : Type 0 where
@@ -113,17 +113,17 @@ WroteUpTo written writes gives WriteFault first last = WroteCut written writes (
 WroteUpTo written writes gives Memory first last = last ≡ first
 
 -- if a source makes known what is left, it is these bytes
-abbrev pub IsLeft : Option (List ℕ) → List ℕ → Type 0
-IsLeft None bytes = Unit {0}
-IsLeft (Some left) bytes = left ≡ bytes
+abbrev pub IsKnownLeft : Option (List ℕ) → List ℕ → Type 0
+IsKnownLeft None bytes = Unit {0}
+IsKnownLeft (Some left) bytes = left ≡ bytes
 
 -- what was written up to the ending is the output of the lines of a list: of the bytes that were
 -- left in the source, if it makes them known; and the reports that were added are those on its
 -- skipped lines
 pub record TellsList (tells : LinePlace → List ℕ → List ℕ → Type 0) (bad : LinePlace → List ℕ → FaultKind → Type 0) (lacks : ℕ → Option FaultKind) (reports : LinePlace → List ℕ → List BadLine → Type 0) (ending : Ending) (left before now : Option (List ℕ)) (founds_before founds_now : List BadLine) : Type 0 where
   pub bytes : List ℕ
-  pub is_left : IsLeft left bytes
-  pub gives : Appended (Gives tells bad lacks first_place (lines_of bytes) ending) before now
+  pub is_left : IsKnownLeft left bytes
+  pub gives : Appended (GivesOutput tells bad lacks first_place (lines_of bytes) ending) before now
   pub reported : Added (Reported reports bad lacks first_place (lines_of bytes) ending) founds_before founds_now
 
 -- what was read of a source up to what is left, and each complete line of it has been processed

@@ -18,12 +18,12 @@ abbrev pub HasNoFeed : List ℕ → Type 0
 HasNoFeed text = IsTrue (list_all (λ byte. not (is_line_feed byte)) text)
 
 -- a line feed ends the text, or it is empty
-abbrev pub IsClosed : List ℕ → Type 0
-IsClosed text = (text ≡ []) ⊎ ((front : List ℕ) × (text ≡ front ++ 10 ∷ []))
+abbrev pub IsClosedText : List ℕ → Type 0
+IsClosedText text = (text ≡ []) ⊎ ((front : List ℕ) × (text ≡ front ++ 10 ∷ []))
 
 -- the text is a line with its line feed, and what follows it
 pub record IsFirstLine (text line behind : List ℕ) : Type 0 where
   pub whole : text ≡ line ++ behind
   pub alone : lines_of line ≡ line ∷ []
-  pub closed : IsClosed line
+  pub closed : IsClosedText line
   pub shorter : length behind < length text

@@ -61,8 +61,8 @@ pub record CutShort {A : Type 0} (tells : LinePlace → List ℕ → List A → 
   pub part : output ≡ take count whole
 
 -- each line has at most one output
-abbrev pub HasOneOutput : (LinePlace → List ℕ → List ℕ → Type 0) → Type 0
-HasOneOutput tells = (place : LinePlace) (line a b : List ℕ) → tells place line a → tells place line b → a ≡ b
+abbrev pub HasOneOutputPerLine : (LinePlace → List ℕ → List ℕ → Type 0) → Type 0
+HasOneOutputPerLine tells = (place : LinePlace) (line a b : List ℕ) → tells place line a → tells place line b → a ≡ b
 
 -- each line has at most one kind of a first error
 abbrev pub HasOneFault : (LinePlace → List ℕ → FaultKind → Type 0) → Type 0

@@ -7,7 +7,7 @@ use Rattle.line_text.specs.declared.faults.FaultKind.{FaultKind}
 use Rattle.mcg6_reader.specs.declared.ending.Ending.{Ending}
 use Rattle.mcg6_reader.specs.declared.ending.Ending.TheVariants.{ReadFault, Memory}
 use Rattle.mcg6_reader.specs.declared.place.LinePlace.{LinePlace}
-use Rattle.mcg6_reader.specs.Endings.{Gives, WholeLinesTold, WroteUpTo}
+use Rattle.mcg6_reader.specs.Endings.{GivesOutput, WholeLinesTold, WroteUpTo}
 use Rattle.mcg6_reader.specs.Lines.{lines_of}
 use Rattle.mcg6_reader.specs.Places.{first_place}
 
@@ -49,7 +49,7 @@ abbrev pub GivesAfter :
     (LinePlace → List ℕ → List ℕ → Type 0) → (LinePlace → List ℕ → FaultKind → Type 0) → (ℕ → Option FaultKind) → (read piece before : List ℕ) →
     Ending → List ℕ → Type 0
 GivesAfter tells bad lacks read piece before ending more =
-    (rest : List ℕ) → MayFollow piece rest → Gives tells bad lacks first_place (lines_of ((read ++ piece) ++ rest)) ending (before ++ more)
+    (rest : List ℕ) → MayFollow piece rest → GivesOutput tells bad lacks first_place (lines_of ((read ++ piece) ++ rest)) ending (before ++ more)
 
 -- one read returned a piece, and the processing ended: what was written up to the ending is the
 -- output of the lines of the list, whatever may follow the piece

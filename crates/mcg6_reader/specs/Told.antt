@@ -32,19 +32,19 @@ LineBad bad place line kind =
     (IsFalse (is_header place.number line) × (length line ≤ most_line) × bad place line kind)
 
 -- what is kept of a line: all of it, or its beginning if it is too long for a line
-abbrev pub IsKept : (line kept : List ℕ) → Type 0
-IsKept line kept = (kept ≡ line) ⊎ ((most_line < length kept) × ((rest : List ℕ) × (line ≡ kept ++ rest)))
+abbrev pub IsKeptOfLine : (line kept : List ℕ) → Type 0
+IsKeptOfLine line kept = (kept ≡ line) ⊎ ((most_line < length kept) × ((rest : List ℕ) × (line ≡ kept ++ rest)))
 
 -- the line at that place is bad, and this is the report on it: its number, the kind of its first
 -- error, and its text as far as it is kept
 pub record NamesBad (bad : LinePlace → List ℕ → FaultKind → Type 0) (place : LinePlace) (line : List ℕ) (found : BadLine) : Type 0 where
   pub bad_line : LineBad bad place line found.kind
   pub number : found.number ≡ place.number
-  pub kept : IsKept line found.text.items
+  pub kept : IsKeptOfLine line found.text.items
 
 -- this is the report on a line: its number, the kind of its first error, and what is kept of its
 -- text
-pub record IsFound (number : ℕ) (kind : FaultKind) (text : List ℕ) (found : BadLine) : Type 0 where
+pub record IsReportOn (number : ℕ) (kind : FaultKind) (text : List ℕ) (found : BadLine) : Type 0 where
   pub numbered : found.number ≡ number
   pub of_kind : found.kind ≡ kind
   pub kept : found.text.items ≡ text
@@ -53,12 +53,12 @@ pub record IsFound (number : ℕ) (kind : FaultKind) (text : List ℕ) (found : 
 -- the kind of its first error, and its text; and else none
 abbrev pub Reports : (LinePlace → List ℕ → Option FaultKind → Type 0) → LinePlace → List ℕ → List BadLine → Type 0
 Reports skips place line [] = skips place line None
-Reports skips place line (found ∷ []) = skips place line (Some found.kind) × IsFound place.number found.kind line found
+Reports skips place line (found ∷ []) = skips place line (Some found.kind) × IsReportOn place.number found.kind line found
 Reports skips place line (found ∷ other ∷ founds) = ⊥
 
 -- these are just one report on a line: its number, the kind of its first error, and its text
 abbrev pub IsOneFound : (number : ℕ) (kind : FaultKind) (text : List ℕ) → List BadLine → Type 0
-IsOneFound number kind text founds = (found : BadLine) × (IsFound number kind text found) × (founds ≡ found ∷ [])
+IsOneFound number kind text founds = (found : BadLine) × (IsReportOn number kind text found) × (founds ≡ found ∷ [])
 
 -- if a bad line is why the processing stops, its report has this property
 abbrev pub IfBad : (BadLine → Type 0) → ListStop → Type 0

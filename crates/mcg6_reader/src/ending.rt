@@ -1,6 +1,6 @@
 //! How the processing of a list ends.
 ghost use Rattle.std.specs.Prelude.{◌≡◌, IfErr, IfOk, OnOk};
-ghost use Rattle.mcg6_reader.specs.Common.{Added, IfBad, IsFound, IsOneFound};
+ghost use Rattle.mcg6_reader.specs.Common.{Added, IfBad, IsReportOn, IsOneFound};
 ghost use Rattle.mcg6_reader.specs.declared.ending.ListStop.TheVariants.{Memory};
 
 use line_text::FaultKind;
@@ -44,7 +44,7 @@ pub enum ListStop {
 
 // The report on a line of this number and text, with an error of this kind.
 fn report_on(alloc: Global, number: u64, kind: FaultKind, text: &[u8]) -> Result<BadLine, ListStop>
-    ensures found { IfOk result (IsFound number kind text.now) }
+    ensures found { IfOk result (IsReportOn number kind text.now) }
     ensures memory { IfErr result (λ stop. stop ≡ Memory) }
 {
     match text.to_vec(alloc) {
@@ -56,7 +56,7 @@ fn report_on(alloc: Global, number: u64, kind: FaultKind, text: &[u8]) -> Result
 // The stop at a line of this number and text with an error of this kind, or for lack of memory to
 // keep its text.
 pub fn stop_at(alloc: Global, number: u64, kind: FaultKind, text: &[u8]) -> ListStop
-    ensures { IfBad (IsFound number kind text.now) result }
+    ensures { IfBad (IsReportOn number kind text.now) result }
 {
     match report_on(alloc, number, kind, text) {
         Ok(found) => ListStop::Bad { found },

@@ -1,6 +1,6 @@
 //! The laws on lists. Each law is the contract of a function that does nothing.
 ghost use Rattle.std.specs.Prelude.{◌≡◌, ℕ, List};
-ghost use Rattle.mcg6_reader.specs.Common.{AllTold, HasOneFault, HasOneOutput, TellsApart, ToldToBad, WholeTold};
+ghost use Rattle.mcg6_reader.specs.Common.{AllTold, HasOneFault, HasOneOutputPerLine, TellsApart, ToldToBad, WholeTold};
 ghost use Rattle.mcg6_reader.specs.declared.ending.BadLine.{BadLine};
 ghost use Rattle.mcg6_reader.specs.declared.place.LinePlace.{LinePlace};
 
@@ -10,7 +10,7 @@ use crate::teller::LineTeller;
 #[tactic(auto, using(crate::proofs::OneOutput::one_output))]
 pub fn one_output_law<T: LineTeller>(teller: &T)
     ensures { (place : LinePlace) (lines : List (List ℕ)) (a b : List ℕ)
-        → HasOneOutput (T.tells teller.now)
+        → HasOneOutputPerLine (T.tells teller.now)
         → AllTold (T.tells teller.now) place lines a →
         AllTold (T.tells teller.now) place lines b → a ≡ b }
 {
@@ -29,7 +29,7 @@ pub fn one_ending_law<T: LineTeller>(teller: &T)
         → ⊥ }
     ensures bad { (place : LinePlace) (lines : List (List ℕ)) (found other : BadLine) (a b : List ℕ)
         → TellsApart (T.tells teller.now) (T.bad teller.now)
-        → HasOneOutput (T.tells teller.now) → HasOneFault (T.bad teller.now)
+        → HasOneOutputPerLine (T.tells teller.now) → HasOneFault (T.bad teller.now)
         → ToldToBad (T.tells teller.now) (T.bad teller.now) (T.lacks teller.now) place lines found a
         → ToldToBad (T.tells teller.now) (T.bad teller.now) (T.lacks teller.now) place lines other b
         → (a ≡ b) × (found.number ≡ other.number) × (found.kind ≡ other.kind) }

@@ -2,7 +2,7 @@
 ghost use Rattle.std.specs.Prelude.{◌≡◌, ◌≤◌, ◌++◌, IfErr, IfOk, OnOk, length};
 ghost use Rattle.outside.specs.Common.{most_line};
 ghost use Rattle.mcg6_reader.specs.declared.ending.Ending.TheVariants as ending;
-ghost use Rattle.mcg6_reader.specs.Common.{HasNoFeed, lines_of, AllTold, ToldToBad, place_behind, IfBad, Added, Gives, Reported, Reports, ReportsWith, ToldThrough, StopsWith, ending_of};
+ghost use Rattle.mcg6_reader.specs.Common.{HasNoFeed, lines_of, AllTold, ToldToBad, place_behind, IfBad, Added, GivesOutput, Reported, Reports, ReportsWith, ToldThrough, StopsWith, ending_of};
 
 use crate::ending::{BadLine, ListStop, stop_at};
 use crate::place::{LinePlace, place_after};
@@ -107,13 +107,13 @@ pub fn add_end<T: LineTeller>(
 ) -> Result<(), ListStop>
     requires { HasNoFeed held.now }
     ensures told { OnOk result (Added
-        (Gives (T.tells teller.now) (T.bad teller.now) (T.lacks teller.now)
+        (GivesOutput (T.tells teller.now) (T.bad teller.now) (T.lacks teller.now)
         place (lines_of held.now) ending.Done) output.old.items output.new.items) }
     ensures reported { OnOk result (Added
         (Reported (Reports (T.skips teller.now)) (T.bad teller.now) (T.lacks teller.now)
         place (lines_of held.now) ending.Done) skipped.old.items skipped.new.items) }
     ensures bad { IfErr result (IfBad (λ found. Added
-        (Gives (T.tells teller.now) (T.bad teller.now) (T.lacks teller.now)
+        (GivesOutput (T.tells teller.now) (T.bad teller.now) (T.lacks teller.now)
         place (lines_of held.now) (ending.Bad found)) output.old.items output.new.items)) }
     ensures stopped { IfErr result (λ stop. Added
         (Reported (Reports (T.skips teller.now)) (T.bad teller.now) (T.lacks teller.now)

@@ -1,7 +1,7 @@
 //! Reading a list and processing its lines.
 ghost use Rattle.std.specs.Prelude.{◌≡◌, ◌≢◌, ◌≤◌, ◌<◌, ◌++◌, ℕ, List, OnOk, IfErr, Some, length};
 ghost use Rattle.outside.specs.Common.{Rose, most_line};
-ghost use Rattle.mcg6_reader.specs.Common.{HasNoFeed, lines_of, first_place, Added, Appended, Gives, Reported, Reports, ReportsWith, ToldThrough, StopsWith, TellsList, ReadsTold, Wrote, WroteUpTo, IsStream};
+ghost use Rattle.mcg6_reader.specs.Common.{HasNoFeed, lines_of, first_place, Added, Appended, GivesOutput, Reported, Reports, ReportsWith, ToldThrough, StopsWith, TellsList, ReadsTold, Wrote, WroteUpTo, IsStream};
 
 use crate::ending::{BadLine, Ending, ListStop};
 use crate::listing::{Listing, add_end, add_piece};
@@ -66,7 +66,7 @@ fn take_end<T: LineTeller, K: Sink>(
 ) -> Ending
     requires { HasNoFeed listing.now.held.items }
     ensures gives { WroteUpTo K.written K.writes
-        (Gives (T.tells teller.now) (T.bad teller.now) (T.lacks teller.now) listing.now.place
+        (GivesOutput (T.tells teller.now) (T.bad teller.now) (T.lacks teller.now) listing.now.place
         (lines_of listing.now.held.items)) result sink.old sink.new }
     ensures reported { Added
         (Reported (Reports (T.skips teller.now)) (T.bad teller.now) (T.lacks teller.now)
@@ -164,7 +164,7 @@ pub fn tell_all<T: LineTeller, S: Source, K: Sink>(
     // The output is what the lines of the list give up to this ending, in whatever pieces it was
     // read.
     ensures gives { (bytes : List ℕ) → S.left source.old ≡ Some bytes
-        → Appended (Gives (T.tells teller.now) (T.bad teller.now) (T.lacks teller.now) first_place
+        → Appended (GivesOutput (T.tells teller.now) (T.bad teller.now) (T.lacks teller.now) first_place
         (lines_of bytes) result) (K.written sink.old) (K.written sink.new) }
     // The reports that are added are those on the skipped lines up to this ending, in their order.
     ensures reported { (bytes : List ℕ) → S.left source.old ≡ Some bytes

@@ -8,7 +8,7 @@ use Rattle.mcg6_reader.specs.declared.ending.Ending.TheVariants.{Done, Bad, Read
 use Rattle.mcg6_reader.specs.declared.ending.BadLine.{BadLine}
 use Rattle.mcg6_reader.specs.Common.{lines_of, first_place, Appended, Reports, TellsList}
 use Rattle.mcg6_top.proofs.Skipping.{added_whole, all_plain}
-use Rattle.mcg6_top.specs.Common.{Command, Answer, Encode, ListCommand, ListRuns, ListRunsTo, AnswersList, command_of, list_asked, TellsOrSkips, StopsAt, SkipsLine, lacks_of, EndsWith, SkipsUpTo, ListOutcome, TellsSome, status_in, status_after, status_encoded, EncodeOutcome, EncodesSome}
+use Rattle.mcg6_top.specs.Common.{Command, Answer, Encode, ListCommand, ListRuns, ListRunsTo, AnswersList, command_of, list_asked, TellsOrSkips, ListStopsAt, SkipsLine, lacks_of, EndsWith, SkipsUpTo, ListOutcome, TellsSome, status_in, status_after, status_encoded, EncodeOutcome, EncodesSome}
 use Rattle.mcg6_top.specs.declared.command.AtBadLine.{AtBadLine}
 use Rattle.mcg6_top.specs.declared.status.ListEnd.{ListEnd}
 use Rattle.mcg6_top.specs.declared.status.RunEnd.{RunEnd}
@@ -49,7 +49,7 @@ appended_outcome query at_bad bytes ending skipped before now appended skips = r
 -- the answer to some list, by the status
 pub tells_some :
     (query : Query) (at_bad : AtBadLine) (ending : Ending) (skipped : List BadLine) (left before now : Option (List ℕ)) →
-    TellsList (TellsOrSkips query at_bad) (StopsAt query at_bad) (lacks_of query) (Reports (SkipsLine query at_bad)) ending left before now [] skipped →
+    TellsList (TellsOrSkips query at_bad) (ListStopsAt query at_bad) (lacks_of query) (Reports (SkipsLine query at_bad)) ending left before now [] skipped →
     TellsSome query at_bad (status_after ending skipped) left before now
 tells_some query at_bad ending skipped left before now list = record {
   bytes = list.bytes;

@@ -9,23 +9,23 @@ use Rattle.outside.specs.Common.{most_line}
 use Rattle.line_text.specs.declared.faults.FaultKind.{FaultKind}
 use Rattle.line_text.specs.declared.faults.FaultKind.TheVariants.{Limit}
 use Rattle.mcg6_lines.specs.declared.query.Query.{Query}
-use Rattle.mcg6_reader.proofs.Joins.{AllTold-one, Gives-behind, HasBadLine-first}
+use Rattle.mcg6_reader.proofs.Joins.{AllTold-one, GivesOutput-behind, HasBadLine-first}
 use Rattle.mcg6_reader.proofs.Skips.{Reported-behind}
-use Rattle.mcg6_reader.specs.Common.{is_header, Gives, IsFound, IsKept, LineTold, NamesBad, Reported, Reports, first_place, lines_of, place_after}
+use Rattle.mcg6_reader.specs.Common.{is_header, GivesOutput, IsReportOn, IsKeptOfLine, LineTold, NamesBad, Reported, Reports, first_place, lines_of, place_after}
 use Rattle.mcg6_reader.specs.declared.ending.BadLine.{BadLine}
 use Rattle.mcg6_reader.specs.declared.ending.Ending.{Ending}
 use Rattle.mcg6_reader.specs.declared.ending.Ending.TheVariants.{Done, Bad, ReadFault, WriteFault, Memory}
 use Rattle.mcg6_reader.specs.declared.place.LinePlace.{LinePlace}
 use Rattle.mcg6_top.proofs.Ended.{outcome_of_ending}
 use Rattle.mcg6_top.proofs.Skipping.{good_line}
-use Rattle.mcg6_top.specs.Common.{EndsWith, HasListOutcome, HasSettledEnd, HasAnswer, IsBadLine, IsSettled, SkipsLine, SkipsUpTo, StopsAt, TellsOrSkips, lacks_of}
+use Rattle.mcg6_top.specs.Common.{EndsWith, HasListOutcome, HasSettledEnd, HasAnswer, IsBadLine, IsSettledEnding, SkipsLine, SkipsUpTo, ListStopsAt, TellsOrSkips, lacks_of}
 use Rattle.mcg6_top.specs.declared.command.AtBadLine.{AtBadLine}
 use Rattle.mcg6_top.specs.declared.command.AtBadLine.TheVariants.{Stop, Skip}
 use Rattle.mcg6_top.specs.declared.status.ListStatus.TheVariants as status
 
 -- there is a report on a line that is not longer than memory is: its text lies where a sample lies
 module _ (sample : Vec ℕ) where
-  report : (number : ℕ) (kind : FaultKind) (text : List ℕ) → length text < 2 ^ 63 → (found : BadLine) × IsFound number kind text found
+  report : (number : ℕ) (kind : FaultKind) (text : List ℕ) → length text < 2 ^ 63 → (found : BadLine) × IsReportOn number kind text found
   report number kind text small = (
     record {
       number = number;
@@ -43,7 +43,7 @@ module _ (sample : Vec ℕ) where
     -- what comes of lines
     abbrev Comes : LinePlace → List (List ℕ) → Type 0
     Comes place lines =
-        (ending : Ending) × (skipped : List BadLine) × (output : List ℕ) × IsSettled ending × Gives tells bad lacks place lines ending output
+        (ending : Ending) × (skipped : List BadLine) × (output : List ℕ) × IsSettledEnding ending × GivesOutput tells bad lacks place lines ending output
         × Reported reports bad lacks place lines ending skipped
 
     -- no line is left
@@ -74,7 +74,7 @@ module _ (sample : Vec ℕ) where
       founds ++ skipped,
       output ++ more,
       settled,
-      Gives-behind tells bad lacks place (line ∷ []) lines output more ending (AllTold-one tells place line output told) gives,
+      GivesOutput-behind tells bad lacks place (line ∷ []) lines output more ending (AllTold-one tells place line output told) gives,
       Reported-behind reports bad lacks place (line ∷ []) lines founds skipped ending (AllTold-one reports place line founds reported) later,
     )
 
@@ -88,7 +88,7 @@ module _ (sample : Vec ℕ) where
           record {
             bad_line = inl (long, found.1.of_kind);
             number = found.1.numbered;
-            kept = subst (λ (t : List ℕ). IsKept line t) (sym found.1.kept) (inr (omega (arith, size), (drop (most_line + 1) line, sym (take-append-drop (most_line + 1) line))));
+            kept = subst (λ (t : List ℕ). IsKeptOfLine line t) (sym found.1.kept) (inr (omega (arith, size), (drop (most_line + 1) line, sym (take-append-drop (most_line + 1) line))));
           },
         )
 
@@ -134,13 +134,13 @@ module _ (sample : Vec ℕ) where
   -- a line by what is done at a bad one
   each_line :
       (query : Query) (at_bad : AtBadLine) → HasAnswer query → (place : LinePlace) (line : List ℕ) → length line ≤ most_line →
-      ComesOf (TellsOrSkips query at_bad) (Reports (SkipsLine query at_bad)) (StopsAt query at_bad) (lacks_of query) place line
+      ComesOf (TellsOrSkips query at_bad) (Reports (SkipsLine query at_bad)) (ListStopsAt query at_bad) (lacks_of query) place line
   each_line query at_bad answers place line short = elim (answers place line) [
     | inl told ↦ let good = good_line query at_bad place line told.0 told.1 in inl (told.0, [], good.0, good.1)
     | inr wrong ↦ at_bad_line at_bad wrong.0 wrong.1
   ]
     where
-      at_bad_line : (at : AtBadLine) (kind : FaultKind) → IsBadLine query place line kind → ComesOf (TellsOrSkips query at) (Reports (SkipsLine query at)) (StopsAt query at) (lacks_of query) place line
+      at_bad_line : (at : AtBadLine) (kind : FaultKind) → IsBadLine query place line kind → ComesOf (TellsOrSkips query at) (Reports (SkipsLine query at)) (ListStopsAt query at) (lacks_of query) place line
       at_bad_line Stop kind is = inr (kind, is)
       at_bad_line Skip kind is =
           let found = report place.number kind line (omega arith) in
@@ -149,11 +149,11 @@ module _ (sample : Vec ℕ) where
   pub settled_end : (query : Query) (at_bad : AtBadLine) (bytes : List ℕ) → HasAnswer query → HasSettledEnd query at_bad bytes
   settled_end query at_bad bytes answers =
       let end =
-      comes (TellsOrSkips query at_bad) (Reports (SkipsLine query at_bad)) (StopsAt query at_bad) (lacks_of query) (each_line query at_bad answers) first_place (lines_of bytes) in
+      comes (TellsOrSkips query at_bad) (Reports (SkipsLine query at_bad)) (ListStopsAt query at_bad) (lacks_of query) (each_line query at_bad answers) first_place (lines_of bytes) in
       record { ending = end.0; skipped = end.1; output = end.2; settled = end.3; gives = end.4; skips = end.5 }
 
 -- and so an outcome
-by_ending : (query : Query) (at_bad : AtBadLine) (bytes : List ℕ) (ending : Ending) (skipped : List BadLine) (output : List ℕ) → IsSettled ending →
+by_ending : (query : Query) (at_bad : AtBadLine) (bytes : List ℕ) (ending : Ending) (skipped : List BadLine) (output : List ℕ) → IsSettledEnding ending →
     EndsWith query at_bad bytes ending output → SkipsUpTo query at_bad bytes ending skipped → HasListOutcome query at_bad bytes
 by_ending query at_bad bytes Done [] output settled gives skips =
     record { status = status.Done; output = output; settled = inl refl; outcome = outcome_of_ending query at_bad bytes Done [] output gives skips }

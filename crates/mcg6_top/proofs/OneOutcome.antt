@@ -8,7 +8,7 @@ use Rattle.mcg6_reader.specs.Common.{lines_of, ToldToBad, first_place}
 use Rattle.mcg6_reader.specs.declared.ending.BadLine.{BadLine}
 use Rattle.mcg6_top.proofs.OneOutput.{one_output_each}
 use Rattle.mcg6_top.proofs.Skipping.{all_unreported, apart_each, either_once, stop_each, whole_lifted}
-use Rattle.mcg6_top.specs.Common.{TellsLineOf, TellsOrSkips, StopsAt, lacks_of, ListOutcome}
+use Rattle.mcg6_top.specs.Common.{TellsLineOf, TellsOrSkips, ListStopsAt, lacks_of, ListOutcome}
 use Rattle.mcg6_top.specs.declared.command.AtBadLine.{AtBadLine}
 use Rattle.mcg6_top.specs.declared.status.ListStatus.TheVariants.{BadInput, Done}
 
@@ -16,7 +16,7 @@ use Rattle.mcg6_top.specs.declared.status.ListStatus.TheVariants.{BadInput, Done
 pub done_or_bad :
     (query : Query) (at_bad : AtBadLine) (bytes a b : List ℕ) → ListOutcome query at_bad bytes Done a → ListOutcome query at_bad bytes BadInput b → ⊥
 done_or_bad query at_bad bytes a b done (inl bad) =
-    whole_not_bad (TellsOrSkips query at_bad) (StopsAt query at_bad) (apart_each query at_bad) (lacks_of query) first_place (lines_of bytes) bad.found a b
+    whole_not_bad (TellsOrSkips query at_bad) (ListStopsAt query at_bad) (apart_each query at_bad) (lacks_of query) first_place (lines_of bytes) bad.found a b
     (whole_lifted query at_bad (lines_of bytes) a done) bad.told
 done_or_bad query at_bad bytes a b done (inr bad) =
     let none : bad.first ∷ bad.others ≡ [] = all_unreported query at_bad first_place (lines_of bytes) a (bad.first ∷ bad.others) done.told bad.skipped in
@@ -28,20 +28,20 @@ done_once query at_bad bytes a b one two = one_output (TellsLineOf query) first_
 -- the first bad line is one
 pub stops_once :
     (query : Query) (at_bad : AtBadLine) (bytes : List ℕ) (found other : BadLine) (a b : List ℕ) →
-    ToldToBad (TellsOrSkips query at_bad) (StopsAt query at_bad) (lacks_of query) first_place (lines_of bytes) found a →
-    ToldToBad (TellsOrSkips query at_bad) (StopsAt query at_bad) (lacks_of query) first_place (lines_of bytes) other b →
+    ToldToBad (TellsOrSkips query at_bad) (ListStopsAt query at_bad) (lacks_of query) first_place (lines_of bytes) found a →
+    ToldToBad (TellsOrSkips query at_bad) (ListStopsAt query at_bad) (lacks_of query) first_place (lines_of bytes) other b →
     (a ≡ b) × (found.number ≡ other.number) × (found.kind ≡ other.kind)
 stops_once query at_bad bytes found other a b one two =
-    stop_once (TellsOrSkips query at_bad) (StopsAt query at_bad) (apart_each query at_bad) (either_once query at_bad) (stop_each query at_bad) (lacks_of query) first_place (lines_of bytes) found other a b one two
+    stop_once (TellsOrSkips query at_bad) (ListStopsAt query at_bad) (apart_each query at_bad) (either_once query at_bad) (stop_each query at_bad) (lacks_of query) first_place (lines_of bytes) found other a b one two
 
 pub bad_once :
     (query : Query) (at_bad : AtBadLine) (bytes a b : List ℕ) → ListOutcome query at_bad bytes BadInput a → ListOutcome query at_bad bytes BadInput b → a ≡ b
 bad_once query at_bad bytes a b (inl one) (inl two) = (stops_once query at_bad bytes one.found two.found a b one.told two.told).0
 bad_once query at_bad bytes a b (inl one) (inr two) =
     absurd
-    (whole_not_bad (TellsOrSkips query at_bad) (StopsAt query at_bad) (apart_each query at_bad) (lacks_of query) first_place (lines_of bytes) one.found b a two.told one.told)
+    (whole_not_bad (TellsOrSkips query at_bad) (ListStopsAt query at_bad) (apart_each query at_bad) (lacks_of query) first_place (lines_of bytes) one.found b a two.told one.told)
 bad_once query at_bad bytes a b (inr one) (inl two) =
     absurd
-    (whole_not_bad (TellsOrSkips query at_bad) (StopsAt query at_bad) (apart_each query at_bad) (lacks_of query) first_place (lines_of bytes) two.found a b one.told two.told)
+    (whole_not_bad (TellsOrSkips query at_bad) (ListStopsAt query at_bad) (apart_each query at_bad) (lacks_of query) first_place (lines_of bytes) two.found a b one.told two.told)
 bad_once query at_bad bytes a b (inr one) (inr two) =
     one_output (TellsOrSkips query at_bad) first_place (lines_of bytes) a b (either_once query at_bad) one.told.told two.told.told

@@ -3,10 +3,10 @@
 use Rattle.std.proofs.Common.{arith}
 use Rattle.mcg6_lines.proofs.OneAnswer.{output_once}
 use Rattle.mcg6_lines.specs.declared.query.Query.{Query}
-use Rattle.mcg6_reader.specs.Common.{HasOneFault, HasOneOutput, TellsApart}
+use Rattle.mcg6_reader.specs.Common.{HasOneFault, HasOneOutputPerLine, TellsApart}
 use Rattle.mcg6_top.specs.Common.{IsBadLine, TellsLineOf}
 
-pub one_output_each : (query : Query) → HasOneOutput (TellsLineOf query)
+pub one_output_each : (query : Query) → HasOneOutputPerLine (TellsLineOf query)
 one_output_each query place line a b one two = output_once query place.number line a b one.1 two.1
 
 pub one_fault_each : (query : Query) → HasOneFault (IsBadLine query)

@@ -6,20 +6,20 @@ use Rattle.line_text.specs.declared.faults.FaultKind.TheVariants.{Extra}
 use Rattle.mcg6_lines.specs.Telling.{HasFault, TellsLine}
 use Rattle.mcg6_lines.specs.declared.query.Query.{Query}
 use Rattle.mcg6_reader.proofs.Skips.{reported_begin}
-use Rattle.mcg6_reader.specs.Common.{lines_of, AllTold, LineTold, WholeTold, Added, HasOneFault, HasOneOutput, TellsApart, Reported, Reports, first_place, place_after}
+use Rattle.mcg6_reader.specs.Common.{lines_of, AllTold, LineTold, WholeTold, Added, HasOneFault, HasOneOutputPerLine, TellsApart, Reported, Reports, first_place, place_after}
 use Rattle.mcg6_reader.specs.declared.ending.BadLine.{BadLine}
 use Rattle.mcg6_reader.specs.declared.ending.Ending.{Ending}
 use Rattle.mcg6_reader.specs.declared.place.LinePlace.{LinePlace}
 use Rattle.mcg6_top.proofs.OneOutput.{one_fault_each, one_output_each, told_or_bad}
-use Rattle.mcg6_top.specs.Common.{IsBadLine, is_further, TellsLineOf, TellsOrSkips, StopsAt, SkipsLine, lacks_of}
+use Rattle.mcg6_top.specs.Common.{IsBadLine, is_past_graph, TellsLineOf, TellsOrSkips, ListStopsAt, SkipsLine, lacks_of}
 use Rattle.mcg6_top.specs.declared.command.AtBadLine.{AtBadLine}
 use Rattle.mcg6_top.specs.declared.command.AtBadLine.TheVariants.{Stop, Skip}
 
 -- a line that no query takes
-pub further_bad : (query : Query) (place : LinePlace) (line : List ℕ) → IsTrue (is_further query place) → IsBadLine query place line Extra
+pub further_bad : (query : Query) (place : LinePlace) (line : List ℕ) → IsTrue (is_past_graph query place) → IsBadLine query place line Extra
 further_bad query place line further = inl (further, refl)
 
-pub faulty_bad : (query : Query) (place : LinePlace) (line : List ℕ) (kind : FaultKind) → IsFalse (is_further query place) → HasFault line kind → IsBadLine query place line kind
+pub faulty_bad : (query : Query) (place : LinePlace) (line : List ℕ) (kind : FaultKind) → IsFalse (is_past_graph query place) → HasFault line kind → IsBadLine query place line kind
 faulty_bad query place line kind first fault = inr (first, fault)
 
 -- a line that is answered is not skipped
@@ -30,23 +30,23 @@ good_line query Stop place line bytes told = (told, tt)
 good_line query Skip place line bytes told = (inl told, λ kind bad. told_or_bad query place line bytes kind told bad)
 
 pub answered_line :
-    (query : Query) (at_bad : AtBadLine) (place : LinePlace) (line bytes : List ℕ) → IsFalse (is_further query place) →
+    (query : Query) (at_bad : AtBadLine) (place : LinePlace) (line bytes : List ℕ) → IsFalse (is_past_graph query place) →
     TellsLine query place.number line bytes → TellsOrSkips query at_bad place line bytes × SkipsLine query at_bad place line None
 answered_line query at_bad place line bytes first told = good_line query at_bad place line bytes (first, told)
 
 -- each line has one output
-pub either_once : (query : Query) (at_bad : AtBadLine) → HasOneOutput (TellsOrSkips query at_bad)
+pub either_once : (query : Query) (at_bad : AtBadLine) → HasOneOutputPerLine (TellsOrSkips query at_bad)
 either_once query Stop place line a b one two = one_output_each query place line a b one two
 either_once query Skip place line a b (inl one) (inl two) = one_output_each query place line a b one two
 either_once query Skip place line a b (inl one) (inr two) = absurd (told_or_bad query place line a two.0.0 one two.0.1)
 either_once query Skip place line a b (inr one) (inl two) = absurd (told_or_bad query place line b one.0.0 two one.0.1)
 either_once query Skip place line a b (inr one) (inr two) = one.1 ∙ sym two.1
 
-pub stop_each : (query : Query) (at_bad : AtBadLine) → HasOneFault (StopsAt query at_bad)
+pub stop_each : (query : Query) (at_bad : AtBadLine) → HasOneFault (ListStopsAt query at_bad)
 stop_each query Stop place line kind other one two = one_fault_each query place line kind other one two
 stop_each query Skip place line kind other one two = absurd one
 
-pub apart_each : (query : Query) (at_bad : AtBadLine) → TellsApart (TellsOrSkips query at_bad) (StopsAt query at_bad)
+pub apart_each : (query : Query) (at_bad : AtBadLine) → TellsApart (TellsOrSkips query at_bad) (ListStopsAt query at_bad)
 apart_each query Stop place line output kind told bad = told_or_bad query place line output kind told bad
 apart_each query Skip place line output kind told bad = bad
 
@@ -142,11 +142,11 @@ all_stop query place (line ∷ lines) founds (a, b, some, more, is) =
 
 pub stop_none :
     (query : Query) (at_bad : AtBadLine) (bytes : List ℕ) (ending : Ending) (skipped : List BadLine) →
-    Reported (Reports (SkipsLine query at_bad)) (StopsAt query at_bad) (lacks_of query) first_place (lines_of bytes) ending skipped →
+    Reported (Reports (SkipsLine query at_bad)) (ListStopsAt query at_bad) (lacks_of query) first_place (lines_of bytes) ending skipped →
     at_bad ≡ Stop → skipped ≡ []
 stop_none query Skip bytes ending skipped reported is = absurd (cc is)
 stop_none query Stop bytes ending skipped reported is =
-    let begin = reported_begin (Reports (SkipsLine query Stop)) (StopsAt query Stop) (lacks_of query) first_place (lines_of bytes) ending skipped reported in
+    let begin = reported_begin (Reports (SkipsLine query Stop)) (ListStopsAt query Stop) (lacks_of query) first_place (lines_of bytes) ending skipped reported in
     all_stop query first_place begin.before skipped begin.told
 
 -- what was added to nothing

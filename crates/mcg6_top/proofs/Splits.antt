@@ -6,17 +6,17 @@ use Rattle.std.proofs.lemmas.List.{map-append}
 use Rattle.line_text.specs.declared.faults.FaultKind.{FaultKind}
 use Rattle.mcg6_lines.specs.declared.query.Query.{Query}
 use Rattle.mcg6_lines.specs.declared.query.Query.TheVariants.{Kinds, Leaves, Elementary, Graph, Select}
-use Rattle.mcg6_reader.proofs.Joins.{AllTold-append, Gives-behind}
+use Rattle.mcg6_reader.proofs.Joins.{AllTold-append, GivesOutput-behind}
 use Rattle.mcg6_reader.proofs.LineCuts.{lines_of-closed}
 use Rattle.mcg6_reader.proofs.Skips.{Reported-behind}
-use Rattle.mcg6_reader.specs.Common.{lines_of, AllTold, Gives, IsClosed, LineTold, Reported, Reports, first_place, place_after, place_behind}
+use Rattle.mcg6_reader.specs.Common.{lines_of, AllTold, GivesOutput, IsClosedText, LineTold, Reported, Reports, first_place, place_after, place_behind}
 use Rattle.mcg6_reader.specs.declared.ending.BadLine.{BadLine}
 use Rattle.mcg6_reader.specs.declared.ending.Ending.{Ending}
 use Rattle.mcg6_reader.specs.declared.ending.Ending.TheVariants.{Done, Bad, ReadFault, WriteFault, Memory}
 use Rattle.mcg6_reader.specs.declared.place.LinePlace.{LinePlace}
 use Rattle.mcg6_top.proofs.LaterLines.{EndsAnywhere, IsLater, MayMove, opens_at, number_behind, all_later, begin_later, stop_later, whole_later}
 use Rattle.mcg6_top.proofs.Skipping.{good_line, whole_lifted}
-use Rattle.mcg6_top.specs.Common.{EndsWith, IsBadLine, ListOutcome, SkipsLine, SkipsUpTo, StopsAt, TellsLineOf, TellsOrSkips, ending_behind, found_behind, is_by_line, lacks_of, opens_with_header}
+use Rattle.mcg6_top.specs.Common.{EndsWith, IsBadLine, ListOutcome, SkipsLine, SkipsUpTo, ListStopsAt, TellsLineOf, TellsOrSkips, ending_behind, found_behind, is_by_line, lacks_of, opens_with_header}
 use Rattle.mcg6_top.specs.declared.command.AtBadLine.{AtBadLine}
 use Rattle.mcg6_top.specs.declared.command.AtBadLine.TheVariants.{Stop, Skip}
 use Rattle.mcg6_top.specs.declared.status.ListStatus.{ListStatus}
@@ -55,7 +55,7 @@ told_moved query Skip p q line output by (inr bad) = inr ((bad.0.0, bad_moved qu
 
 stop_moved :
     (query : Query) (at_bad : AtBadLine) (p q : LinePlace) (line : List ℕ) (kind : FaultKind) → IsTrue (is_by_line query) →
-    StopsAt query at_bad p line kind → StopsAt query at_bad q line kind
+    ListStopsAt query at_bad p line kind → ListStopsAt query at_bad q line kind
 stop_moved query Stop p q line kind by stops = bad_moved query p q line kind by stops
 stop_moved query Skip p q line kind by stops = stops
 
@@ -106,15 +106,15 @@ reports_move :
 reports_move query at_bad count by =
     record { none = refl; joins = map-append (found_behind count); each = λ p q line founds at reports. reports_moved query at_bad count p q line founds by at reports }
 
-ends_anywhere : (query : Query) (at_bad : AtBadLine) → IsTrue (is_by_line query) → EndsAnywhere (StopsAt query at_bad) (lacks_of query)
+ends_anywhere : (query : Query) (at_bad : AtBadLine) → IsTrue (is_by_line query) → EndsAnywhere (ListStopsAt query at_bad) (lacks_of query)
 ends_anywhere query at_bad by = record { each = λ p q line kind stops. stop_moved query at_bad p q line kind by stops; never = none_missing query by }
 
 module _ (query : Query) (at_bad : AtBadLine) (by : IsTrue (is_by_line query)) where
   module _ (count : ℕ) (p q : LinePlace) (lines : List (List ℕ)) (later : IsLater count p q) (plain : opens_at p lines ≡ false) where
     -- the output of lines up to an ending may be moved
     gives_later :
-        (ending : Ending) (output : List ℕ) → Gives (TellsOrSkips query at_bad) (StopsAt query at_bad) (lacks_of query) p lines ending output →
-        Gives (TellsOrSkips query at_bad) (StopsAt query at_bad) (lacks_of query) q lines (ending_behind count ending) output
+        (ending : Ending) (output : List ℕ) → GivesOutput (TellsOrSkips query at_bad) (ListStopsAt query at_bad) (lacks_of query) p lines ending output →
+        GivesOutput (TellsOrSkips query at_bad) (ListStopsAt query at_bad) (lacks_of query) q lines (ending_behind count ending) output
     gives_later Done output gives = whole_later (outputs_move query at_bad count by) p q lines later plain (ends_anywhere query at_bad by) output gives
     gives_later (Bad found) output gives = stop_later (outputs_move query at_bad count by) p q lines later plain (ends_anywhere query at_bad by) found output gives
     gives_later ReadFault output gives = begin_later (outputs_move query at_bad count by) p q lines later plain output gives
@@ -129,15 +129,15 @@ module _ (query : Query) (at_bad : AtBadLine) (by : IsTrue (is_by_line query)) w
 
     -- and so may the reports on skipped lines
     reported_later :
-        (ending : Ending) (founds : List BadLine) → Reported (Reports (SkipsLine query at_bad)) (StopsAt query at_bad) (lacks_of query) p lines ending founds →
-        Reported (Reports (SkipsLine query at_bad)) (StopsAt query at_bad) (lacks_of query) q lines (ending_behind count ending) (map (found_behind count) founds)
+        (ending : Ending) (founds : List BadLine) → Reported (Reports (SkipsLine query at_bad)) (ListStopsAt query at_bad) (lacks_of query) p lines ending founds →
+        Reported (Reports (SkipsLine query at_bad)) (ListStopsAt query at_bad) (lacks_of query) q lines (ending_behind count ending) (map (found_behind count) founds)
     reported_later Done founds reported = all_later (reports_move query at_bad count by) p q lines founds later plain reported
     reported_later (Bad found) founds reported = stop_later (reports_move query at_bad count by) p q lines later plain (ends_anywhere query at_bad by) found founds reported
     reported_later ReadFault founds reported = begin_later (reports_move query at_bad count by) p q lines later plain founds reported
     reported_later WriteFault founds reported = begin_later (reports_move query at_bad count by) p q lines later plain founds reported
     reported_later Memory founds reported = begin_later (reports_move query at_bad count by) p q lines later plain founds reported
 
-  module _ (first second : List ℕ) (closed : IsClosed first) (plain : opens_with_header (lines_of second) ≡ false) where
+  module _ (first second : List ℕ) (closed : IsClosedText first) (plain : opens_with_header (lines_of second) ≡ false) where
     -- the place of the second list
     second_place : IsLater (length (lines_of first)) first_place (place_behind first_place (lines_of first))
     second_place = record { number = number_behind first_place (lines_of first); some = omega arith }
@@ -149,9 +149,9 @@ module _ (query : Query) (at_bad : AtBadLine) (by : IsTrue (is_by_line query)) w
     ends_split ending a b one two =
         let count = length (lines_of first) in
         let at = place_behind first_place (lines_of first) in
-        subst (λ (ls : List (List ℕ)). Gives (TellsOrSkips query at_bad) (StopsAt query at_bad) (lacks_of query) first_place ls (ending_behind count ending) (a ++ b))
+        subst (λ (ls : List (List ℕ)). GivesOutput (TellsOrSkips query at_bad) (ListStopsAt query at_bad) (lacks_of query) first_place ls (ending_behind count ending) (a ++ b))
         (sym (lines_of-closed first second closed))
-        (Gives-behind (TellsOrSkips query at_bad) (StopsAt query at_bad) (lacks_of query) first_place (lines_of first) (lines_of second) a b (ending_behind count ending) one.told
+        (GivesOutput-behind (TellsOrSkips query at_bad) (ListStopsAt query at_bad) (lacks_of query) first_place (lines_of first) (lines_of second) a b (ending_behind count ending) one.told
         (gives_later count first_place at (lines_of second) second_place (opens_first (lines_of second) plain) ending b two))
 
     -- and so the reports on skipped lines
@@ -161,9 +161,9 @@ module _ (query : Query) (at_bad : AtBadLine) (by : IsTrue (is_by_line query)) w
     skips_split ending a b one two =
         let count = length (lines_of first) in
         let at = place_behind first_place (lines_of first) in
-        subst (λ (ls : List (List ℕ)). Reported (Reports (SkipsLine query at_bad)) (StopsAt query at_bad) (lacks_of query) first_place ls (ending_behind count ending) (a ++ map (found_behind count) b))
+        subst (λ (ls : List (List ℕ)). Reported (Reports (SkipsLine query at_bad)) (ListStopsAt query at_bad) (lacks_of query) first_place ls (ending_behind count ending) (a ++ map (found_behind count) b))
         (sym (lines_of-closed first second closed))
-        (Reported-behind (Reports (SkipsLine query at_bad)) (StopsAt query at_bad) (lacks_of query) first_place (lines_of first) (lines_of second) a (map (found_behind count) b) (ending_behind count ending) one
+        (Reported-behind (Reports (SkipsLine query at_bad)) (ListStopsAt query at_bad) (lacks_of query) first_place (lines_of first) (lines_of second) a (map (found_behind count) b) (ending_behind count ending) one
         (reported_later count first_place at (lines_of second) second_place (opens_first (lines_of second) plain) ending b two))
 
     -- all lines of both are answered

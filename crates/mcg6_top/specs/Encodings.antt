@@ -3,10 +3,10 @@
 use Rattle.std.specs.Prelude.{◌≡◌, ℕ, ◌≤◌, List, [], length, Option}
 use Rattle.outside.specs.Common.{most_bytes}
 use Rattle.mcg6_reader.specs.declared.ending.BadLine.{BadLine}
-use Rattle.mcg6_reader.specs.Common.{Appended, IsLeft}
+use Rattle.mcg6_reader.specs.Common.{Appended, IsKnownLeft}
 use Rattle.mcg6_encoder.specs.declared.ending.EncodeEnding.{EncodeEnding}
 use Rattle.mcg6_encoder.specs.Files.{IsBadFile, IsCutShort, IsEncoded}
-use Rattle.mcg6_encoder.specs.Reads.{ReadsFirst}
+use Rattle.mcg6_encoder.specs.Reads.{ReadsThenWrites}
 use Rattle.mcg6_top.specs.Statuses.{status_encoded}
 use Rattle.mcg6_top.specs.declared.status.ListStatus.{ListStatus}
 use Rattle.mcg6_top.specs.declared.status.ListStatus.TheVariants.{Done, Usage, ReadFault, BadInput, WriteFault, Memory}
@@ -31,11 +31,11 @@ EncodeOutcome file Memory output = output ≡ []
 -- where it tells them
 pub record EncodesSome (status : ListStatus) (left before now : Option (List ℕ)) : Type 0 where
   pub file : List ℕ
-  pub is_left : IsLeft left file
+  pub is_left : IsKnownLeft left file
   pub outcome : Appended (EncodeOutcome file status) before now
 
 -- the graph file was read first and then encoded, up to an ending with this status
 pub record ReadsFirstTo {S K : Type 0} (reads : S → Option (List ℕ) → S → Type 0) (written : K → Option (List ℕ)) (writes : K → List ℕ → ℕ → K → Type 0) (status : ListStatus) (source : S) (sink : K) (last_source : S) (last_sink : K) : Type 0 where
   pub ending : EncodeEnding
   pub of_status : status ≡ status_encoded ending
-  pub order : ReadsFirst reads written writes ending source sink last_source last_sink
+  pub order : ReadsThenWrites reads written writes ending source sink last_source last_sink

@@ -12,21 +12,21 @@ use Rattle.mcg6_reader.specs.Common.{is_header_line}
 use Rattle.mcg6_reader.specs.declared.place.LinePlace.{LinePlace}
 
 -- the file of one graph is asked for, and a graph stands before the line at that place
-abbrev pub is_further : Query → LinePlace → Bool
-is_further Kinds place = false
-is_further (Leaves order) place = false
-is_further Elementary place = false
-is_further Graph place = nat_lt 0 place.graphs
-is_further (Select property) place = false
+abbrev pub is_past_graph : Query → LinePlace → Bool
+is_past_graph Kinds place = false
+is_past_graph (Leaves order) place = false
+is_past_graph Elementary place = false
+is_past_graph Graph place = nat_lt 0 place.graphs
+is_past_graph (Select property) place = false
 
 -- this output is what is asked of the graph in the line at that place
 abbrev pub TellsLineOf : Query → LinePlace → List ℕ → List ℕ → Type 0
-TellsLineOf query place line output = IsFalse (is_further query place) × TellsLine query place.number line output
+TellsLineOf query place line output = IsFalse (is_past_graph query place) × TellsLine query place.number line output
 
 -- the line at that place is bad: a further line if one is asked for, or it stands for no graph
 abbrev pub IsBadLine : Query → LinePlace → List ℕ → FaultKind → Type 0
 IsBadLine query place line kind =
-    (IsTrue (is_further query place) × (kind ≡ Extra)) ⊎ (IsFalse (is_further query place) × HasFault line kind)
+    (IsTrue (is_past_graph query place) × (kind ≡ Extra)) ⊎ (IsFalse (is_past_graph query place) × HasFault line kind)
 
 -- what a list lacks that ends after so many graphs: the one whose file is asked for
 abbrev pub lacks_of : Query → ℕ → Option FaultKind
@@ -45,9 +45,9 @@ TellsOrSkips query Skip place line output =
 
 -- the list ends at the line at that place, which is bad with a first error of this kind: none does
 -- if the list goes on after bad lines
-abbrev pub StopsAt : Query → AtBadLine → LinePlace → List ℕ → FaultKind → Type 0
-StopsAt query Stop place line kind = IsBadLine query place line kind
-StopsAt query Skip place line kind = ⊥
+abbrev pub ListStopsAt : Query → AtBadLine → LinePlace → List ℕ → FaultKind → Type 0
+ListStopsAt query Stop place line kind = IsBadLine query place line kind
+ListStopsAt query Skip place line kind = ⊥
 
 -- the line at that place is skipped, as it is bad with a first error of this kind; or, with none, it
 -- is not bad. No line is skipped if the list ends at a bad line

@@ -7,8 +7,8 @@ use Rattle.line_text.specs.declared.faults.FaultKind.{FaultKind}
 use Rattle.mcg6_reader.specs.declared.ending.Ending.{Ending}
 use Rattle.mcg6_reader.specs.declared.ending.Ending.TheVariants as ending
 use Rattle.mcg6_reader.specs.declared.place.LinePlace.{LinePlace}
-use Rattle.mcg6_reader.specs.Common.{lines_of, AllTold, BeginningTold, Reported, Reports, WholeTold, ToldToBad, CutShort, Appended, Gives, IsLeft, first_place, IsStream}
-use Rattle.mcg6_top.specs.Listings.{IsBadLine, TellsLineOf, TellsOrSkips, StopsAt, SkipsLine, lacks_of}
+use Rattle.mcg6_reader.specs.Common.{lines_of, AllTold, BeginningTold, Reported, Reports, WholeTold, ToldToBad, CutShort, Appended, GivesOutput, IsKnownLeft, first_place, IsStream}
+use Rattle.mcg6_top.specs.Listings.{IsBadLine, TellsLineOf, TellsOrSkips, ListStopsAt, SkipsLine, lacks_of}
 use Rattle.mcg6_top.specs.Statuses.{status_after}
 use Rattle.mcg6_top.specs.declared.command.AtBadLine.{AtBadLine}
 use Rattle.mcg6_top.specs.declared.command.AtBadLine.TheVariants.{Stop}
@@ -19,17 +19,17 @@ use Rattle.mcg6_top.specs.declared.status.ListStatus.TheVariants.{Done, Usage, R
 -- graph, in order; of bad lines nothing, if the list goes on after them
 abbrev pub EndsWith : Query → AtBadLine → (bytes : List ℕ) → Ending → (output : List ℕ) → Type 0
 EndsWith query at_bad bytes ending output =
-    Gives (TellsOrSkips query at_bad) (StopsAt query at_bad) (lacks_of query) first_place (lines_of bytes) ending output
+    GivesOutput (TellsOrSkips query at_bad) (ListStopsAt query at_bad) (lacks_of query) first_place (lines_of bytes) ending output
 
 -- the reports on the bad lines of the list that were skipped up to an ending, in order
 abbrev pub SkipsUpTo : Query → AtBadLine → (bytes : List ℕ) → Ending → (skipped : List BadLine) → Type 0
 SkipsUpTo query at_bad bytes ending skipped =
-    Reported (Reports (SkipsLine query at_bad)) (StopsAt query at_bad) (lacks_of query) first_place (lines_of bytes) ending skipped
+    Reported (Reports (SkipsLine query at_bad)) (ListStopsAt query at_bad) (lacks_of query) first_place (lines_of bytes) ending skipped
 
 -- the lines before the bad one at which the list ends are answered, and nothing of that one
 pub record StopsAtBad (query : Query) (at_bad : AtBadLine) (bytes output : List ℕ) : Type 0 where
   pub found : BadLine
-  pub told : ToldToBad (TellsOrSkips query at_bad) (StopsAt query at_bad) (lacks_of query) first_place (lines_of bytes) found output
+  pub told : ToldToBad (TellsOrSkips query at_bad) (ListStopsAt query at_bad) (lacks_of query) first_place (lines_of bytes) found output
 
 -- all lines are answered but the bad ones, which are skipped: there is one, and these are the
 -- reports on them
@@ -52,7 +52,7 @@ ListOutcome query at_bad bytes Memory output = BeginningTold (TellsOrSkips query
 -- it makes them known
 pub record TellsSome (query : Query) (at_bad : AtBadLine) (status : ListStatus) (left before now : Option (List ℕ)) : Type 0 where
   pub bytes : List ℕ
-  pub is_left : IsLeft left bytes
+  pub is_left : IsKnownLeft left bytes
   pub outcome : Appended (ListOutcome query at_bad bytes status) before now
 
 -- the list was answered while it was read, up to this ending
@@ -60,7 +60,7 @@ abbrev pub StreamsTo :
     {S K : Type 0} → Query → AtBadLine → (S → Option (List ℕ) → S → Type 0) → (K → Option (List ℕ)) → (K → List ℕ → ℕ → K → Type 0) → Ending →
     S → K → S → K → Type 0
 StreamsTo query at_bad reads written writes ending source sink last_source last_sink =
-    IsStream (TellsOrSkips query at_bad) (StopsAt query at_bad) (lacks_of query) reads written writes ending source sink last_source last_sink
+    IsStream (TellsOrSkips query at_bad) (ListStopsAt query at_bad) (lacks_of query) reads written writes ending source sink last_source last_sink
 
 -- the list was answered while it was read, up to an ending with this status
 pub record Streams {S K : Type 0} (query : Query) (at_bad : AtBadLine) (reads : S → Option (List ℕ) → S → Type 0) (written : K → Option (List ℕ)) (writes : K → List ℕ → ℕ → K → Type 0) (status : ListStatus) (source : S) (sink : K) (last_source : S) (last_sink : K) : Type 0 where
@@ -71,12 +71,12 @@ pub record Streams {S K : Type 0} (query : Query) (at_bad : AtBadLine) (reads : 
   pub stream : StreamsTo query at_bad reads written writes ending source sink last_source last_sink
 
 -- the bytes of a list settle that it ends so: nothing of the outside does
-abbrev pub IsSettled : Ending → Type 0
-IsSettled ending.Done = Unit {0}
-IsSettled (ending.Bad found) = Unit {0}
-IsSettled ending.ReadFault = ⊥
-IsSettled ending.WriteFault = ⊥
-IsSettled ending.Memory = ⊥
+abbrev pub IsSettledEnding : Ending → Type 0
+IsSettledEnding ending.Done = Unit {0}
+IsSettledEnding (ending.Bad found) = Unit {0}
+IsSettledEnding ending.ReadFault = ⊥
+IsSettledEnding ending.WriteFault = ⊥
+IsSettledEnding ending.Memory = ⊥
 
 -- each line has an output, or is bad with a first error of some kind
 abbrev pub HasAnswer : Query → Type 0
@@ -89,7 +89,7 @@ pub record HasSettledEnd (query : Query) (at_bad : AtBadLine) (bytes : List ℕ)
   pub ending : Ending
   pub skipped : List BadLine
   pub output : List ℕ
-  pub settled : IsSettled ending
+  pub settled : IsSettledEnding ending
   pub gives : EndsWith query at_bad bytes ending output
   pub skips : SkipsUpTo query at_bad bytes ending skipped
 

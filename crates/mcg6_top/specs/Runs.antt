@@ -7,11 +7,11 @@ use Rattle.mcg6_reader.specs.declared.ending.Ending.TheVariants as ending
 use Rattle.mcg6_encoder.specs.declared.ending.EncodeEnding.{EncodeEnding}
 use Rattle.mcg6_encoder.specs.declared.ending.EncodeEnding.TheVariants as encoding
 use Rattle.mcg6_encoder.specs.Files.{Encodes}
-use Rattle.mcg6_encoder.specs.Reads.{EncodesFile, ReadsFirst}
+use Rattle.mcg6_encoder.specs.Reads.{EncodesFile, ReadsThenWrites}
 use Rattle.mcg6_top.specs.Asked.{list_asked}
 use Rattle.mcg6_top.specs.Commands.{Command, ListCommand, Answer, Encode, command_of}
 use Rattle.mcg6_top.specs.Encodings.{EncodeOutcome, EncodesSome, ReadsFirstTo}
-use Rattle.mcg6_top.specs.Listings.{TellsOrSkips, StopsAt, SkipsLine, lacks_of}
+use Rattle.mcg6_top.specs.Listings.{TellsOrSkips, ListStopsAt, SkipsLine, lacks_of}
 use Rattle.mcg6_top.specs.Outcomes.{EndsWith, SkipsUpTo, ListOutcome, Streams, StreamsTo, TellsSome}
 use Rattle.mcg6_lines.specs.declared.query.Query.{Query}
 use Rattle.mcg6_top.specs.declared.command.AtBadLine.{AtBadLine}
@@ -73,7 +73,7 @@ pub record AnswersList {S K : Type 0} (query : Query) (at_bad : AtBadLine) (left
   pub skips_none : at_bad ≡ Stop → ended.skipped.items ≡ []
   -- if what is left of the source is not known, it is what is asked of the lines of some list, and
   -- the reports are on the same lines
-  pub tells : TellsList (TellsOrSkips query at_bad) (StopsAt query at_bad) (lacks_of query) (Reports (SkipsLine query at_bad)) ended.ending (left first)
+  pub tells : TellsList (TellsOrSkips query at_bad) (ListStopsAt query at_bad) (lacks_of query) (Reports (SkipsLine query at_bad)) ended.ending (left first)
       (written before) (written now) [] ended.skipped.items
   -- where the source fails, each whole line of what was read is told and written
   pub torn : ended.ending ≡ ending.ReadFault → Appended (ReadsTold (TellsOrSkips query at_bad) (left first) (left last)) (written before) (written now)
@@ -92,7 +92,7 @@ pub record AnswersFile {S K : Type 0} (left : S → Option (List ℕ)) (faults :
   -- if the source does not tell what is left, it is what some file gives
   pub encodes_some : EncodesFile ended (left first) (written before) (written now)
   -- the file is read to its end before the first write; nothing is written of a bad file
-  pub reads_first : ReadsFirst reads written writes ended first before last now
+  pub reads_first : ReadsThenWrites reads written writes ended first before last now
 
 -- what a run was asked for that ended so
 abbrev pub command_at : RunEnd → Command

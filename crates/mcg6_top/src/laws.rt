@@ -1,7 +1,7 @@
 //! The laws of what a list gives. Each is the contract of a function that does nothing.
 ghost use Rattle.std.specs.Prelude.{◌≡◌, ◌++◌, IsFalse, IsTrue, List, length, map, ℕ};
 ghost use Rattle.mcg6_lines.specs.declared.query.Query.{Query};
-ghost use Rattle.mcg6_reader.specs.Common.{HasOneFault, HasOneOutput, IsClosed, TellsApart, lines_of};
+ghost use Rattle.mcg6_reader.specs.Common.{HasOneFault, HasOneOutputPerLine, IsClosedText, TellsApart, lines_of};
 ghost use Rattle.mcg6_reader.specs.declared.ending.BadLine.{BadLine};
 ghost use Rattle.mcg6_reader.specs.declared.ending.Ending.{Ending};
 ghost use Rattle.mcg6_reader.specs.declared.ending.Ending.TheVariants as ending;
@@ -14,7 +14,7 @@ ghost use Rattle.mcg6_top.specs.declared.status.ListStatus.TheVariants.{BadInput
 /// kind of a first fault, and no line is both.
 #[tactic(auto, using(crate::proofs::OneOutput::one_fault_each, crate::proofs::OneOutput::told_or_bad))]
 pub fn one_line_law()
-    ensures output { (query : Query) → HasOneOutput (TellsLineOf query) }
+    ensures output { (query : Query) → HasOneOutputPerLine (TellsLineOf query) }
     ensures fault { (query : Query) → HasOneFault (IsBadLine query) }
     ensures apart { (query : Query) → TellsApart (TellsLineOf query) (IsBadLine query) }
 {}
@@ -44,18 +44,18 @@ pub fn one_output_law()
 /// first part.
 pub fn split_law()
     ensures outcome { (query : Query) (at_bad : AtBadLine) (first second : List ℕ)
-        → IsTrue (is_by_line query) → IsClosed first → IsFalse (opens_with_header (lines_of second))
+        → IsTrue (is_by_line query) → IsClosedText first → IsFalse (opens_with_header (lines_of second))
         → (status : ListStatus) (a b : List ℕ) → ListOutcome query at_bad first Done a
         → ListOutcome query at_bad second status b
         → ListOutcome query at_bad (first ++ second) status (a ++ b) }
     ensures ends { (query : Query) (at_bad : AtBadLine) (first second : List ℕ)
-        → IsTrue (is_by_line query) → IsClosed first → IsFalse (opens_with_header (lines_of second))
+        → IsTrue (is_by_line query) → IsClosedText first → IsFalse (opens_with_header (lines_of second))
         → (last : Ending) (a b : List ℕ) → EndsWith query at_bad first ending.Done a
         → EndsWith query at_bad second last b
         → let before = length (lines_of first) in
         EndsWith query at_bad (first ++ second) (ending_behind before last) (a ++ b) }
     ensures skips { (query : Query) (at_bad : AtBadLine) (first second : List ℕ)
-        → IsTrue (is_by_line query) → IsClosed first → IsFalse (opens_with_header (lines_of second))
+        → IsTrue (is_by_line query) → IsClosedText first → IsFalse (opens_with_header (lines_of second))
         → (last : Ending) (a b : List BadLine) → SkipsUpTo query at_bad first ending.Done a
         → SkipsUpTo query at_bad second last b
         → let before = length (lines_of first) in

@@ -3,7 +3,7 @@ ghost use Rattle.std.specs.Prelude.{◌≡◌, ℕ, List};
 ghost use Rattle.mcg6_lines.specs.declared.query.Query.{Query};
 ghost use Rattle.mcg6_reader.specs.declared.place.LinePlace.{LinePlace};
 ghost use Rattle.mcg6_reader.specs.Common.{IsToldAs};
-ghost use Rattle.mcg6_top.specs.Listings.{TellsOrSkips, StopsAt, SkipsLine, IsBadLine, is_further, lacks_of};
+ghost use Rattle.mcg6_top.specs.Listings.{TellsOrSkips, ListStopsAt, SkipsLine, IsBadLine, is_past_graph, lacks_of};
 
 use crate::command::AtBadLine;
 use line_text::FaultKind;
@@ -20,7 +20,7 @@ pub struct Lister {
 
 // Whether the query is `graph`, which is for one graph, and an earlier line was a graph.
 fn is_further(query: &Query, place: LinePlace) -> bool
-    ensures { result ≡ is_further query.now place }
+    ensures { result ≡ is_past_graph query.now place }
 {
     match query {
         Query::Graph => place.graphs > 0,
@@ -31,7 +31,7 @@ fn is_further(query: &Query, place: LinePlace) -> bool
 // The result for a bad line, with a first error of this kind.
 fn bad_line(at_bad: AtBadLine, kind: FaultKind) -> LineAnswer
     ensures { (query : Query) (place : LinePlace) (line : List ℕ) → IsBadLine query place line kind →
-        IsToldAs (TellsOrSkips query at_bad place line) (StopsAt query at_bad place line)
+        IsToldAs (TellsOrSkips query at_bad place line) (ListStopsAt query at_bad place line)
         (SkipsLine query at_bad place line) result }
 {
     match at_bad {
@@ -44,7 +44,7 @@ impl LineTeller for Lister {
     ghost tells = { λ lister place line output.
         TellsOrSkips lister.query lister.at_bad place line output };
 
-    ghost bad = { λ lister place line kind. StopsAt lister.query lister.at_bad place line kind };
+    ghost bad = { λ lister place line kind. ListStopsAt lister.query lister.at_bad place line kind };
 
     ghost lacks = { λ lister graphs. lacks_of lister.query graphs };
 

@@ -11,7 +11,7 @@ ghost use Rattle.move_laws.specs.Common.{Corner, carry, pre, IsPairing, IsSameLe
 /// partition with the complement of x merged and that with the new shore merged are the same leaf,
 /// and so are the two others, by the names of the images that the maps of moves give. The shores
 /// may be trivial, and may contain the highest-numbered vertex.
-pub fn exchange()
+pub fn exchange_law()
     ensures kept { (g : Graph) (p : List (List ℕ)) (x u v : List ℕ) (s t : ℕ) → IsGraph g →
         IsPartition g.order p → IsCovered (contracted g p) →
         IsRisingIn g.order x → IsRisingIn g.order u → IsRisingIn g.order v →
@@ -34,7 +34,7 @@ pub fn exchange()
 /// vertex, and the carried tree is a derivation at the other: each shore is replaced by the
 /// canonical one of its image and the image's complement, and the two subtrees change places if the
 /// complement is taken. Carrying such a tree back gives the tree itself.
-pub fn carrying()
+pub fn carrying_law()
     ensures tight { (g : Graph) (p q : List (List ℕ)) (names : List ℕ) (x : Set) → IsGraph g →
         IsPartition g.order p → IsPartition g.order q → IsSameLeaf g p q names →
         IsUnion g.order p x → (IsTightAt g p x ↔ IsTightAt g q (pre (from_name p q names) x)) }
@@ -56,7 +56,7 @@ pub fn carrying()
 /// Names: let two partitions be the same leaf by a list of names. Then the second and the first are
 /// the same leaf by the inverse names. After a union of blocks is merged in the one and its image
 /// in the other, the two are again the same leaf.
-pub fn same_leaves()
+pub fn same_leaves_law()
     ensures turned { (g : Graph) (p q : List (List ℕ)) (names : List ℕ) → IsGraph g →
         IsPartition g.order p → IsPartition g.order q → IsSameLeaf g p q names →
         IsSameLeaf g q p (turned_names p q names) }
@@ -68,14 +68,14 @@ pub fn same_leaves()
 {}
 
 /// Rotate takes a derivation to a derivation, if it has a result.
-pub fn rotate_derives()
+pub fn rotate_derives_law()
     ensures { (g : Graph) (path : List Side) (s t : Shape) → IsGraph g → IsDerivation g s →
         rotate_result path s ≡ Some t → IsDerivation g t }
 {}
 
 /// A proper Switch at the root takes a derivation at p to a derivation at p, if its new shore is a
 /// nontrivial tight shore there.
-pub fn switch_derives()
+pub fn switch_derives_law()
     ensures { (g : Graph) (p : List (List ℕ)) (s : Shape) (u v z : List ℕ) (a b : Shape) →
         IsGraph g → IsPartition g.order p → IsCovered (contracted g p) → IsDerivationAt g p s →
         BlocksAt g.order p [] u v s → switch_result_at g.order u v s ≡ Some (cut z a b) →
@@ -83,7 +83,7 @@ pub fn switch_derives()
 {}
 
 /// The maps of a proper move from a derivation to a derivation pair their leaves.
-pub fn moves_pair()
+pub fn moves_pair_law()
     ensures { (g : Graph) (s t : Shape) (m : PlainMove) → IsGraph g → IsDerivation g s →
         IsProper g.order (singles g.order) s m → move_result g.order s m ≡ Some t →
         IsDerivation g t → IsPairing g (leaves g.order s) (leaves g.order t)
@@ -92,7 +92,7 @@ pub fn moves_pair()
 
 /// In any derivation with c cuts each canonical nontrivial tight shore of the graph can be brought
 /// to the root through derivations, by at most 3 c - 2 moves.
-pub fn exposing()
+pub fn exposing_law()
     ensures { (g : Graph) (s : Shape) (y : List ℕ) → IsGraph g → IsDerivation g s →
         IsCutAt g (singles g.order) y →
         (ms : List PlainMove) × (a : Shape) × (b : Shape) × TurnsThrough g s ms (cut y a b) ×
@@ -102,7 +102,7 @@ pub fn exposing()
 /// Uniqueness (Lovász 1987): of two derivations of a graph the first, with c cuts, can be turned
 /// into the second through derivations, by at most 5 c * c moves, and the leaves of the two are
 /// paired.
-pub fn uniqueness()
+pub fn uniqueness_law()
     ensures turns { (g : Graph) (s t : Shape) → IsGraph g → IsDerivation g s → IsDerivation g t →
         (ms : List PlainMove) × TurnsThrough g s ms t ×
         (length ms ≤ 5 * (cut_count s * cut_count s)) }

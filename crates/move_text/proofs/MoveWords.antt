@@ -10,7 +10,7 @@ use Rattle.line_text.specs.Common.{is_line_feed, is_blank, is_word}
 use Rattle.line_text.proofs.Decimals.{digits-decimal, is_word-decimal, list_all-digits, nonempty}
 use Rattle.tree_core.specs.declared.path.Side.{Side}
 use Rattle.tree_core.specs.declared.path.Side.TheVariants.{Kept, Merged}
-use Rattle.move_text.specs.Common.{is_step, side_of, is_path, path_of, is_comma, parts_of, most_steps, letter_of, path_word, behind_commas, set_word}
+use Rattle.move_text.specs.Common.{is_step, side_of, is_path_word, path_of, is_comma, parts_of, most_steps, letter_of, path_word, behind_commas, set_word}
 
 -- the letters of steps write these steps
 letters-steps : (path : List Side) → list_all is_step (map letter_of path) ≡ true
@@ -30,8 +30,8 @@ some_letters : (letter : ℕ) (letters : List ℕ) → nat_le 1 (length (letter 
 some_letters letter letters = le-leb 1 (length (letter ∷ letters)) (omega arith)
 
 -- the word of a path
-pub is_path-path_word : (path : List Side) → length path ≤ most_steps → is_path (path_word path) ≡ true
-is_path-path_word path few = grind (arith, and_from, some_letters 107 (map letter_of path), few-letters, letters-steps, some_letters 109 (map letter_of path))
+pub is_path_word-path_word : (path : List Side) → length path ≤ most_steps → is_path_word (path_word path) ≡ true
+is_path_word-path_word path few = grind (arith, and_from, some_letters 107 (map letter_of path), few-letters, letters-steps, some_letters 109 (map letter_of path))
 
 pub path_of-path_word : (path : List Side) → path_of (path_word path) ≡ path
 path_of-path_word [] = refl

@@ -11,7 +11,7 @@ use Rattle.line_text.specs.declared.faults.FaultKind.TheVariants as kind
 use Rattle.tree_core.proofs.Common.{PlainMove, switch_at}
 use Rattle.tree_text.specs.Common.{is_rising}
 use Rattle.tree_text.proofs.ShoreLists.{rising_read}
-use Rattle.move_text.specs.Common.{move_format, move_line, rotate_line, switch_line, is_rotate_line, is_switch_line, is_path, is_comma, path_of, parts_of, are_numbers, vertices_of, most_moves, most_steps, HasShortPath, HasSets, SetsRise, IsWritable}
+use Rattle.move_text.specs.Common.{move_format, move_line, rotate_line, switch_line, is_rotate_line, is_switch_line, is_path_word, is_comma, path_of, parts_of, are_numbers, vertices_of, most_moves, most_steps, HasShortPath, HasSets, SetsRise, IsWritable}
 
 -- what is said of the moves read so far
 record Keeps (n : ℕ) (moves : List PlainMove) : Type 0 where
@@ -32,7 +32,7 @@ keeps-more n moves m few keeps short sets rising = grind (arith, length-append, 
 at_most : (k : ℕ) → nat_le k most_steps ≡ true → k ≤ most_steps
 at_most k is = grind (arith, nat_tests)
 
-short-path : (word : List ℕ) → is_path word ≡ true → length (path_of word) ≤ most_steps
+short-path : (word : List ℕ) → is_path_word word ≡ true → length (path_of word) ≤ most_steps
 short-path word is = grind (arith, and_parts, nat_le, list_all, at_most, length-map)
 
 -- a word between blanks has at least one part
@@ -47,7 +47,7 @@ switch_tests n u v =
     ∷ (not (is_rising (vertices_of u) && is_rising (vertices_of v)), kind.NotRising)
     ∷ []
 
-switch-keeps : (n : ℕ) (moves : List PlainMove) (path u v : List ℕ) (next : List PlainMove) → length moves < most_moves → is_path path ≡ true → Keeps n moves → switch_line n moves path u v ≡ Ok next → Keeps n next
+switch-keeps : (n : ℕ) (moves : List PlainMove) (path u v : List ℕ) (next : List PlainMove) → length moves < most_moves → is_path_word path ≡ true → Keeps n moves → switch_line n moves path u v ≡ Ok next → Keeps n next
 switch-keeps n moves path u v next few is keeps same =
     let m : PlainMove = switch_at (path_of path) (vertices_of u) (vertices_of v) in
     let through = all_passed (switch_tests n u v) (moves ++ m ∷ []) next same in
@@ -73,12 +73,12 @@ line-keeps n moves words next keeps same = grind (arith, no_value, rotated, few_
   where
     switched : length moves < most_moves → (is : Bool) → is_switch_line words ≡ is → behind_rotate n moves words ≡ Ok next → Keeps n next
     switched few true is same =
-        switch-keeps n moves (word_at words 1) (word_at words 2) (word_at words 3) next few (and_parts (has_form words 4 (codes "switch" ∷ [])) (is_path (word_at words 1)) is).1 keeps
+        switch-keeps n moves (word_at words 1) (word_at words 2) (word_at words 3) next few (and_parts (has_form words 4 (codes "switch" ∷ [])) (is_path_word (word_at words 1)) is).1 keeps
         (sym (ap (λ b. if b then switch_line n moves (word_at words 1) (word_at words 2) (word_at words 3) else Err kind.Word) is) ∙ same)
     switched few false is same = absurd (no_value kind.Word next (sym (ap (λ b. if b then switch_line n moves (word_at words 1) (word_at words 2) (word_at words 3) else Err kind.Word) is) ∙ same))
 
     rotated : length moves < most_moves → (is : Bool) → is_rotate_line words ≡ is → behind_limit n moves words ≡ Ok next → Keeps n next
-    rotated few true is same = grind (arith, and_parts (has_form words 2 (codes "rotate" ∷ [])) (is_path (word_at words 1)) is, value_or, keeps-more n moves, short-path (word_at words 1))
+    rotated few true is same = grind (arith, and_parts (has_form words 2 (codes "rotate" ∷ [])) (is_path_word (word_at words 1)) is, value_or, keeps-more n moves, short-path (word_at words 1))
     rotated few false is same = switched few (is_switch_line words) refl (sym (ap (λ b. if b then rotate_line moves words else behind_rotate n moves words) is) ∙ same)
 
 -- what is said of the state that the lines lead to

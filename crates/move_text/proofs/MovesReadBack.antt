@@ -9,8 +9,8 @@ use Rattle.line_text.proofs.InRange.{in_range-tests, few-digits}
 use Rattle.tree_core.proofs.Common.{PlainMove, rotate_at, switch_at}
 use Rattle.tree_core.specs.declared.path.Side.{Side}
 use Rattle.tree_text.proofs.TreeReadBack.{rising-tests}
-use Rattle.move_text.specs.Common.{move_format, is_rotate_line, is_switch_line, is_path, path_of, are_numbers, vertices_of, most_moves, most_steps, header_words, path_word, set_word, move_words, moves_text, HasShortPath, HasSets, SetsRise, IsWritable}
-use Rattle.move_text.proofs.MoveWords.{is_path-path_word, path_of-path_word, is_word-path_word, parts_of-set_word, is_word-set_word}
+use Rattle.move_text.specs.Common.{move_format, is_rotate_line, is_switch_line, is_path_word, path_of, are_numbers, vertices_of, most_moves, most_steps, header_words, path_word, set_word, move_words, moves_text, HasShortPath, HasSets, SetsRise, IsWritable}
+use Rattle.move_text.proofs.MoveWords.{is_path_word-path_word, path_of-path_word, is_word-path_word, parts_of-set_word, is_word-set_word}
 
 -- the header line
 header-taken : (n : ℕ) → n < 10 ^ 9 → (move_format n).header (header_words n) ≡ Ok []
@@ -18,7 +18,7 @@ unfolding has_form
 header-taken n small = rw (number_of-decimal n small) (grind (arith, nat_tests))
 
 -- which line it is
-is-rotate : (path : List ℕ) → is_path path ≡ true → is_rotate_line (codes "rotate" ∷ path ∷ []) ≡ true
+is-rotate : (path : List ℕ) → is_path_word path ≡ true → is_rotate_line (codes "rotate" ∷ path ∷ []) ≡ true
 unfolding has_form
 is-rotate path is = is
 
@@ -26,7 +26,7 @@ not-rotate : (path u v : List ℕ) → is_rotate_line (codes "switch" ∷ path �
 unfolding has_form
 not-rotate path u v = refl
 
-is-switch : (path u v : List ℕ) → is_path path ≡ true → is_switch_line (codes "switch" ∷ path ∷ u ∷ v ∷ []) ≡ true
+is-switch : (path u v : List ℕ) → is_path_word path ≡ true → is_switch_line (codes "switch" ∷ path ∷ u ∷ v ∷ []) ≡ true
 unfolding has_form
 is-switch path u v is = is
 
@@ -35,7 +35,7 @@ few_moves moves few = grind (arith, nat_tests)
 
 -- the line of a Rotate
 rotate-taken : (n : ℕ) (moves : List PlainMove) (path : List Side) → length moves < most_moves → length path ≤ most_steps → (move_format n).line moves (move_words (rotate_at path)) ≡ Ok (moves ++ rotate_at path ∷ [])
-rotate-taken n moves path few short = grind (arith, is-rotate (path_word path) (is_path-path_word path short), is_path-path_word path short, path_of-path_word path, few_moves moves few)
+rotate-taken n moves path few short = grind (arith, is-rotate (path_word path) (is_path_word-path_word path short), is_path_word-path_word path short, path_of-path_word path, few_moves moves few)
 
 pub vertices_of-set_word : (n : ℕ) (x : List ℕ) → n < 10 ^ 9 → 0 < length x → All (Within n) x → (vertices_of (set_word x) ≡ x) × (are_numbers (set_word x) ≡ true)
 vertices_of-set_word n [] small some within = absurd (omega arith)
@@ -51,7 +51,7 @@ switch-taken n moves path u v small few short sets rising =
     let first = sets.0 in let second = sets.1 in
     let read_u = vertices_of-set_word n u small first.0 first.1 in
     let read_v = vertices_of-set_word n v small second.0 second.1 in
-    taken (path_word path) (set_word u) (set_word v) (not-rotate (path_word path) (set_word u) (set_word v)) (is-switch (path_word path) (set_word u) (set_word v) (is_path-path_word path short)) (path_of-path_word path) read_u.1 read_v.1 read_u.0 read_v.0 (in_range-tests n u first.1) (in_range-tests n v second.1)
+    taken (path_word path) (set_word u) (set_word v) (not-rotate (path_word path) (set_word u) (set_word v)) (is-switch (path_word path) (set_word u) (set_word v) (is_path_word-path_word path short)) (path_of-path_word path) read_u.1 read_v.1 read_u.0 read_v.0 (in_range-tests n u first.1) (in_range-tests n v second.1)
   where
     taken : (word x y : List ℕ) → is_rotate_line (codes "switch" ∷ word ∷ x ∷ y ∷ []) ≡ false → is_switch_line (codes "switch" ∷ word ∷ x ∷ y ∷ []) ≡ true → path_of word ≡ path → are_numbers x ≡ true → are_numbers y ≡ true → vertices_of x ≡ u → vertices_of y ≡ v → list_any (is_out_of_range n) u ≡ false → list_any (is_out_of_range n) v ≡ false → (move_format n).line moves (codes "switch" ∷ word ∷ x ∷ y ∷ []) ≡ Ok (moves ++ switch_at path u v ∷ [])
     taken word x y other is same numbers_x numbers_y vertices_x vertices_y range_u range_v = grind (arith, few_moves moves few, rising-tests u rising.0, rising-tests v rising.1)

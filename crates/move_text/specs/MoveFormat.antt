@@ -30,8 +30,8 @@ abbrev pub side_of : ℕ → Side
 side_of byte = if byte == 107 then Kept else Merged
 
 -- a word that writes a path: `.`, or one letter for each of 1 to 127 steps
-abbrev pub is_path : List ℕ → Bool
-is_path word = bytes_eq word (codes ".") || (nat_le 1 (length word) && (nat_le (length word) most_steps && list_all is_step word))
+abbrev pub is_path_word : List ℕ → Bool
+is_path_word word = bytes_eq word (codes ".") || (nat_le 1 (length word) && (nat_le (length word) most_steps && list_all is_step word))
 
 -- the path that it writes
 abbrev pub path_of : List ℕ → List Side
@@ -55,11 +55,11 @@ vertices_of word = map value_of (parts_of word)
 
 -- the words of a Rotate: `rotate` and a path
 abbrev pub is_rotate_line : List (List ℕ) → Bool
-is_rotate_line words = has_form words 2 (codes "rotate" ∷ []) && is_path (word_at words 1)
+is_rotate_line words = has_form words 2 (codes "rotate" ∷ []) && is_path_word (word_at words 1)
 
 -- the words of a Switch: `switch`, a path and two more
 abbrev pub is_switch_line : List (List ℕ) → Bool
-is_switch_line words = has_form words 4 (codes "switch" ∷ []) && is_path (word_at words 1)
+is_switch_line words = has_form words 4 (codes "switch" ∷ []) && is_path_word (word_at words 1)
 
 -- the header, by its words
 abbrev pub moves_header : ℕ → List (List ℕ) → Result (List PlainMove) FaultKind

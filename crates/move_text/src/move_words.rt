@@ -2,7 +2,7 @@
 ghost use Rattle.std.specs.Prelude.{◌≡◌, IfOk, map, option_map};
 ghost use Rattle.std.specs.List.{list_all};
 ghost use Rattle.line_text.specs.Common.{numbers_of, texts_of};
-ghost use Rattle.move_text.specs.Common.{is_path, is_step, path_of, side_of, parts_of, is_rotate_line, is_switch_line};
+ghost use Rattle.move_text.specs.Common.{is_path_word, is_step, path_of, side_of, parts_of, is_rotate_line, is_switch_line};
 
 use line_text::{has_form, numbers, word};
 use std::alloc::{AllocError as Memory, Global};
@@ -12,7 +12,7 @@ const MOST_STEPS: usize = 127;
 
 // Whether a word writes a path.
 fn is_path(word: &[u8]) -> bool
-    ensures { result ≡ is_path word.now }
+    ensures { result ≡ is_path_word word.now }
 {
     let is_root = word == b".".as_slice();
     is_root || (!word.is_empty() && word.len() <= MOST_STEPS && are_steps(word))

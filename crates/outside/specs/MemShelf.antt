@@ -19,8 +19,8 @@ abbrev pub FailsNext : ShelfState → List ℕ → Type 0
 FailsNext shelf name = Contains shelf.failing (next_call shelf.calls) ⊎ (file_named name shelf.files ≡ None)
 
 -- the bytes that a read of that name may take: those of its whole file, or none
-abbrev pub MayTake : List NamedFile → List ℕ → ℕ → Type 0
-MayTake files name taken = (taken ≡ 0) ⊎ ((bytes : List ℕ) × ((file_named name files ≡ Some bytes) × (length bytes ≡ taken)))
+abbrev pub MayTakeBytes : List NamedFile → List ℕ → ℕ → Type 0
+MayTakeBytes files name taken = (taken ≡ 0) ⊎ ((bytes : List ℕ) × ((file_named name files ≡ Some bytes) × (length bytes ≡ taken)))
 
 -- a read of that name may return this: all bytes of the file; that it fails, if it does; that the
 -- file has more bytes than some limit; lack of memory at any time
@@ -37,4 +37,4 @@ pub record IsRead (before : ShelfState) (name : List ℕ) (answer : Answer) (now
   pub files : now.files ≡ before.files
   pub failing : now.failing ≡ before.failing
   pub calls : now.calls ≡ next_call before.calls
-  pub taken : MayTake before.files name now.taken
+  pub taken : MayTakeBytes before.files name now.taken

@@ -22,9 +22,9 @@ abbrev pub Answer : Type 0
 Answer = Result (List ℕ) ShelfFault
 
 -- the result as contracts see it
-abbrev pub answer_of : Result (Vec ℕ) ShelfFault → Answer
-answer_of (Ok bytes) = Ok bytes.items
-answer_of (Err fault) = Err fault
+abbrev pub answer_seen : Result (Vec ℕ) ShelfFault → Answer
+answer_seen (Ok bytes) = Ok bytes.items
+answer_seen (Err fault) = Err fault
 
 -- reads of the first of these names had these results, one after another, and lead from the first
 -- shelf to the last

@@ -8,9 +8,9 @@ prepended piece None = None
 prepended piece (Some rest) = Some (piece ++ rest)
 
 -- if the bytes that are left are known, there are none
-abbrev pub IsEnd : Option (List ℕ) → Type 0
-IsEnd None = Unit {0}
-IsEnd (Some rest) = rest ≡ []
+abbrev pub IsAtEnd : Option (List ℕ) → Type 0
+IsAtEnd None = Unit {0}
+IsAtEnd (Some rest) = rest ≡ []
 
 -- the bytes that a read returned, which are at the front of the piece; none if it failed
 abbrev pub given_by : {E : Type 0} → Result ℕ E → List ℕ → Option (List ℕ)

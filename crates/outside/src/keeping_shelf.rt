@@ -4,7 +4,7 @@ ghost use Rattle.std.specs.declared.option.Option.TheVariants.{None, Some};
 ghost use Rattle.std.specs.Option.{option_map};
 ghost use Rattle.outside.specs.Faults.{Rose};
 ghost use Rattle.outside.specs.Keeping.{KeepsRead, bytes_kept};
-ghost use Rattle.outside.specs.Shelf.{IsLonger, TellsFile, answer_of};
+ghost use Rattle.outside.specs.Shelf.{IsLonger, TellsFile, answer_seen};
 
 use crate::{Explain, FailureReason, Shelf, ShelfFault};
 use std::alloc::Global;
@@ -68,7 +68,7 @@ impl<S: Shelf + Drop> Shelf for KeepingShelf<S> {
     fn read(&mut self, alloc: Global, name: &str, limit: usize) -> Result<Vec<u8>, ShelfFault>
         requires { limit < 2 ^ 64 - 1 }
 
-        ensures reads { KeepsRead S.files S.reads self.old.shelf name.now (answer_of result)
+        ensures reads { KeepsRead S.files S.reads self.old.shelf name.now (answer_seen result)
             self.new.shelf (bytes_kept self.new.kept) }
         // It keeps the bytes that it returns, and if it returns none it keeps none.
         ensures keeps { IfOk result (λ bytes. bytes_kept self.new.kept ≡ Some bytes.items) }

@@ -3,7 +3,7 @@ ghost use Rattle.std.specs.Prelude.{◌≡◌, ◌≤◌, ◌<◌, ◌-◌, ◌^
 ghost use Rattle.std.specs.declared.option.Option.{Option};
 ghost use Rattle.std.specs.declared.option.Option.TheVariants.{None, Some};
 ghost use Rattle.outside.specs.Faults.{Rose};
-ghost use Rattle.outside.specs.Shelf.{Answer, NamedFile, TellsFile, IsLonger, answer_of};
+ghost use Rattle.outside.specs.Shelf.{Answer, NamedFile, TellsFile, IsLonger, answer_seen};
 
 use std::alloc::Global;
 use std::error::Error;
@@ -65,7 +65,7 @@ pub trait Shelf {
     fn read(&mut self, alloc: Global, name: &str, limit: usize) -> Result<Vec<u8>, ShelfFault>
         requires { limit < 2 ^ 64 - 1 }
 
-        ensures reads { reads self.old name.now (answer_of result) self.new }
+        ensures reads { reads self.old name.now (answer_seen result) self.new }
         ensures files { files self.new ≡ files self.old }
         ensures steady { steady self.new ≡ steady self.old }
         ensures later { faults self.old ≤ faults self.new }

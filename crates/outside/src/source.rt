@@ -2,7 +2,7 @@
 ghost use Rattle.std.specs.Prelude.{◌≡◌, ◌≤◌, ◌<◌, ℕ, List, IfOk, OnErr, length, take};
 ghost use Rattle.std.specs.declared.option.Option.{Option};
 ghost use Rattle.outside.specs.Faults.{Rose};
-ghost use Rattle.outside.specs.Source.{prepended, given_by, IsEnd};
+ghost use Rattle.outside.specs.Source.{prepended, given_by, IsAtEnd};
 
 use std::error::Error;
 use std::fmt;
@@ -45,7 +45,7 @@ pub trait Source {
         ensures taken { IfOk result (λ count.
             left self.old ≡ prepended (take count piece.new) (left self.new)) }
         ensures end { IfOk result
-            (λ count. count ≡ 0 → 0 < length piece.old → IsEnd (left self.new)) }
+            (λ count. count ≡ 0 → 0 < length piece.old → IsAtEnd (left self.new)) }
         ensures untaken { OnErr result (left self.new ≡ left self.old) }
 
         ensures later { faults self.old ≤ faults self.new }

@@ -3,7 +3,7 @@
 use Rattle.std.proofs.Common.{◌≡◌, ℕ, ◌-◌, ◌<◌, ◌≤◌, List, length, take, suc, sym, ap, ◌∙◌, subst, arith, get_or-take, length-take-le}
 use Rattle.counting.proofs.Common.{Within}
 use Rattle.graph_core.proofs.Common.{Graph, IsMultigraph, size, IsWithinLimits}
-use Rattle.plain_graph.specs.EdgeFaults.{IsReached, JoinsTwo, pair_at}
+use Rattle.plain_graph.specs.EdgeFaults.{IsReachedPair, JoinsTwo, pair_at}
 
 pub first_pairs-join : (n k : ℕ) (es : List (ℕ × ℕ)) → k ≤ length es → IsMultigraph (record { order = n; ends = take k es }) → (j : ℕ) → j < k → JoinsTwo n (pair_at es j)
 first_pairs-join n k es h is j less = record {
@@ -21,5 +21,5 @@ first_pairs-join n k es h is j less = record {
 pub first_pairs-size : (n k : ℕ) (es : List (ℕ × ℕ)) (g : Graph) → g ≡ record { order = n; ends = take k es } → k < length es → size g ≡ k
 first_pairs-size n k es g is less = ap size is ∙ length-take-le k es (omega arith)
 
-pub reached : (n k : ℕ) (es : List (ℕ × ℕ)) (g : Graph) → g ≡ record { order = n; ends = take k es } → IsWithinLimits g → k < length es → IsReached n es k
+pub reached : (n k : ℕ) (es : List (ℕ × ℕ)) (g : Graph) → g ≡ record { order = n; ends = take k es } → IsWithinLimits g → k < length es → IsReachedPair n es k
 reached n k es g is limits less = grind (arith, first_pairs-join n k es, first_pairs-size n k es g is less)

@@ -14,7 +14,7 @@ pub record JoinsTwo (n : ℕ) (e : ℕ × ℕ) : Type 0 where
   pub different : e.0 ≢ e.1
 
 -- the list has a pair at place k, and those before it are edges of one graph with n vertices
-pub record IsReached (n : ℕ) (es : List (ℕ × ℕ)) (k : ℕ) : Type 0 where
+pub record IsReachedPair (n : ℕ) (es : List (ℕ × ℕ)) (k : ℕ) : Type 0 where
   pub place : k < length es
   pub before : (j : ℕ) → j < k → JoinsTwo n (pair_at es j)
   pub few : k ≤ 2048

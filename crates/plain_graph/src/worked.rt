@@ -2,7 +2,7 @@
 //! order of their numbers.
 ghost use Rattle.std.specs.Prelude.{◌≡◌, ℕ, ◌<◌, ◌≤◌, length, IfOk, OnOk, IsErrOf};
 ghost use Rattle.counting.specs.Common.{Within};
-ghost use Rattle.plain_graph.specs.EdgeFaults.{IsReached, JoinsTwo, pair_at};
+ghost use Rattle.plain_graph.specs.EdgeFaults.{IsReachedPair, JoinsTwo, pair_at};
 
 use graph_core::{AddFault, MOST_EDGES, MultiGraph};
 use std::alloc::Global;
@@ -116,12 +116,12 @@ pub fn graph_with(alloc: Global, order: u32, edges: &[(u32, u32)]) -> Result<Mul
     ensures fits { OnOk result
         ((k : ℕ) → k < length edges.now → JoinsTwo order (pair_at edges.now k)) }
     ensures few { OnOk result (length edges.now ≤ MOST_EDGES) }
-    ensures range { IsErrOf result AddFault.Range → (k : ℕ) × IsReached order edges.now k
+    ensures range { IsErrOf result AddFault.Range → (k : ℕ) × IsReachedPair order edges.now k
         × ¬ (Within order (pair_at edges.now k).0 × Within order (pair_at edges.now k).1) }
-    ensures equal { IsErrOf result AddFault.Loop → (k : ℕ) × IsReached order edges.now k
+    ensures equal { IsErrOf result AddFault.Loop → (k : ℕ) × IsReachedPair order edges.now k
         × Within order (pair_at edges.now k).0 ×
         ((pair_at edges.now k).0 ≡ (pair_at edges.now k).1) }
-    ensures too_many { IsErrOf result AddFault.TooMany → (k : ℕ) × IsReached order edges.now k
+    ensures too_many { IsErrOf result AddFault.TooMany → (k : ℕ) × IsReachedPair order edges.now k
         × JoinsTwo order (pair_at edges.now k) × (k ≡ MOST_EDGES) }
 {
     let mut graph = MultiGraph::new(alloc, order).map_err(|_| AddFault::Memory)?;

@@ -11,7 +11,7 @@ use Rattle.graph_text.specs.Common.{AreNames, is_name}
 use Rattle.line_text.specs.Common.{AreWords, is_word, written}
 use Rattle.line_text.proofs.Decimals.{is_word-decimal, words-decimal}
 use Rattle.line_text.proofs.WrittenLines.{spaced, unwords-spaced}
-use Rattle.report_text.specs.Common.{HasFewLeaves, IsCommented, adjacent_line, adjacent_lines, block_lines, derivation_text, leaf_line, leaf_lines, leaf_text, name_at, tally_line, leaf_kind_word, list_line, name_line, name_lines, numbers_text, with_names_text}
+use Rattle.report_text.specs.Common.{HasFewLeaves, IsCommented, adjacent_line, adjacent_lines, block_lines, derivation_text, numbered_leaf_line, numbered_leaf_lines, leaf_text, name_at, tally_line, leaf_kind_word, list_line, name_line, name_lines, numbers_text, with_names_text}
 use Rattle.tree_core.proofs.Common.{leaf_at, is_brick, kind_at, tally_of}
 use Rattle.tree_core.specs.declared.tallies.LeafKind.{LeafKind}
 use Rattle.tree_core.specs.declared.tallies.LeafKind.TheVariants.{Brick, Brace}
@@ -29,9 +29,9 @@ is_word-kind Brick = refl
 is_word-kind Brace = refl
 
 -- the line of a leaf
-leaf-commented : (number : ℕ) (kind : LeafKind) → number < 10 ^ 9 → IsCommented [] (leaf_line number kind)
+leaf-commented : (number : ℕ) (kind : LeafKind) → number < 10 ^ 9 → IsCommented [] (numbered_leaf_line number kind)
 leaf-commented number kind small =
-    commented-line (leaf_line number kind) (codes "c" ∷ codes "leaf" ∷ decimal number ∷ leaf_kind_word kind ∷ [])
+    commented-line (numbered_leaf_line number kind) (codes "c" ∷ codes "leaf" ∷ decimal number ∷ leaf_kind_word kind ∷ [])
     (record { skipped = refl; each = (refl, (refl, (is_word-decimal number small, (is_word-kind kind, tt)))) })
     (simp append_assoc)
 
@@ -116,16 +116,16 @@ pairs-commented g p (suc k) few small =
 whole_leaf-commented : (g : Graph) (number : ℕ) (p : List (List ℕ)) (kind : LeafKind) → number < 10 ^ 9 → size g < 10 ^ 9 → All (λ (b : List ℕ). All (λ v. v < 10 ^ 9) b) p → IsCommented [] (leaf_text g number p kind)
 unfolding leaf_text
 whole_leaf-commented g number p kind numbered few small =
-    commented-both (leaf_line number kind ++ block_lines p (length p)) (adjacent_lines g p (size (quotient g p)))
-    (commented-both (leaf_line number kind) (block_lines p (length p)) (leaf-commented number kind numbered) (blocks-commented p (length p) small))
+    commented-both (numbered_leaf_line number kind ++ block_lines p (length p)) (adjacent_lines g p (size (quotient g p)))
+    (commented-both (numbered_leaf_line number kind) (block_lines p (length p)) (leaf-commented number kind numbered) (blocks-commented p (length p) small))
     (pairs-commented g p (size (quotient g p)) few small)
 
 -- the lines of the first leaves
-leaves-commented : (g : Graph) (ps : List (List (List ℕ))) (kinds : List LeafKind) (k : ℕ) → HasFewLeaves g ps kinds → k ≤ length ps → IsCommented [] (leaf_lines g ps kinds k)
+leaves-commented : (g : Graph) (ps : List (List (List ℕ))) (kinds : List LeafKind) (k : ℕ) → HasFewLeaves g ps kinds → k ≤ length ps → IsCommented [] (numbered_leaf_lines g ps kinds k)
 leaves-commented g ps kinds zero few some = commented-none []
 leaves-commented g ps kinds (suc k) few some =
     let leaves = few.leaves in
-    commented-both (leaf_lines g ps kinds k) (leaf_text g (suc k) (leaf_at ps (suc k)) (kind_at kinds (suc k)))
+    commented-both (numbered_leaf_lines g ps kinds k) (leaf_text g (suc k) (leaf_at ps (suc k)) (kind_at kinds (suc k)))
     (leaves-commented g ps kinds k few (omega arith))
     (whole_leaf-commented g (suc k) (leaf_at ps (suc k)) (kind_at kinds (suc k)) (omega arith) few.edges
     (blocks-small g.order (leaf_at ps (suc k)) few.order (All-get_or (IsPartition g.order) ps (suc k - 1) [] (omega arith) few.partitions)))
@@ -138,9 +138,9 @@ derivation-commented text g ps kinds few =
     let each_one = few.each_one in
     let bricks = count_by-le-length is_brick kinds in
     let braces = count_by-le-length (λ kind. not (is_brick kind)) kinds in
-    commented-more text (text ++ leaf_lines g ps kinds (length ps)) (text ++ leaf_lines g ps kinds (length ps) ++ tally_line (tally_of kinds))
-    (commented-tail text (leaf_lines g ps kinds (length ps)) (leaves-commented g ps kinds (length ps) few (omega arith)))
-    (commented-tail (text ++ leaf_lines g ps kinds (length ps)) (tally_line (tally_of kinds)) (tally-commented (tally_of kinds) (omega arith) (omega arith) (omega arith)))
+    commented-more text (text ++ numbered_leaf_lines g ps kinds (length ps)) (text ++ numbered_leaf_lines g ps kinds (length ps) ++ tally_line (tally_of kinds))
+    (commented-tail text (numbered_leaf_lines g ps kinds (length ps)) (leaves-commented g ps kinds (length ps) few (omega arith)))
+    (commented-tail (text ++ numbered_leaf_lines g ps kinds (length ps)) (tally_line (tally_of kinds)) (tally-commented (tally_of kinds) (omega arith) (omega arith) (omega arith)))
 
 -- a word among words
 word-among : (names : List (List ℕ)) (k : ℕ) → AreWords names → k < length names → is_word (get_or names k []) ≡ true

@@ -3,7 +3,7 @@
 use Rattle.std.proofs.Common.{◌≡◌, ℕ, suc, ◌-◌, ◌∙◌, List, [], ◌++◌, length, ap, subst, append_assoc, slice_get, get_or, Some, arith, codes}
 use Rattle.counting.proofs.Common.{get_or_from_slice_get, rising_list, Within}
 use Rattle.graph_core.proofs.Common.{Graph, contracted, contracted-size, first_end, second_end, has_ends, size, quotient}
-use Rattle.report_text.specs.Common.{list_line, adjacent_line, adjacent_lines, block_lines, leaf_line, leaf_lines, leaf_text, name_at}
+use Rattle.report_text.specs.Common.{list_line, adjacent_line, adjacent_lines, block_lines, numbered_leaf_line, numbered_leaf_lines, leaf_text, name_at}
 use Rattle.tree_core.proofs.Common.{leaf_at, kind_at}
 use Rattle.tree_core.specs.declared.tallies.LeafKind.{LeafKind}
 use Rattle.tree_core.specs.declared.tallies.LeafKind.TheVariants.{Brick}
@@ -30,16 +30,16 @@ adjacent-written g p q h i a b x y edges start now next is placed first_is secon
 -- the lines of a leaf: its own, those of its blocks, and those of the pairs of adjacent blocks,
 -- which are the edges of its quotient
 pub leaf_text-written : (g : Graph) (p : List (List ℕ)) (number : ℕ) (kind : LeafKind) (start first second end : List ℕ) →
-    first ≡ start ++ leaf_line number kind → second ≡ first ++ block_lines p (length p) → end ≡ second ++ adjacent_lines g p (size (quotient g p)) → end ≡ start ++ leaf_text g number p kind
+    first ≡ start ++ numbered_leaf_line number kind → second ≡ first ++ block_lines p (length p) → end ≡ second ++ adjacent_lines g p (size (quotient g p)) → end ≡ start ++ leaf_text g number p kind
 unfolding leaf_text
 leaf_text-written g p number kind start first second end line blocks pairs = grind (arith, one-more, append_assoc)
 
 -- the lines of the next leaf
 pub leaf-written : (g : Graph) (ps : List (List (List ℕ))) (kinds : List LeafKind) (i : ℕ) (p : List (List ℕ)) (kind : LeafKind) (start now next : List ℕ) → p ≡ get_or ps i [] → kind ≡ get_or kinds i Brick →
-    now ≡ start ++ leaf_lines g ps kinds i → next ≡ now ++ leaf_text g (suc i) p kind → next ≡ start ++ leaf_lines g ps kinds (suc i)
+    now ≡ start ++ numbered_leaf_lines g ps kinds i → next ≡ now ++ leaf_text g (suc i) p kind → next ≡ start ++ numbered_leaf_lines g ps kinds (suc i)
 leaf-written g ps kinds i p kind start now next here same first second =
     let back : i ≡ suc i - 1 = omega arith in
     let p_is : p ≡ leaf_at ps (suc i) = here ∙ ap (λ j. get_or ps j []) back in
     let kind_is : kind ≡ kind_at kinds (suc i) = same ∙ ap (λ j. get_or kinds j Brick) back in
-    one-more start (leaf_lines g ps kinds i) (leaf_text g (suc i) (leaf_at ps (suc i)) (kind_at kinds (suc i))) now next first
+    one-more start (numbered_leaf_lines g ps kinds i) (leaf_text g (suc i) (leaf_at ps (suc i)) (kind_at kinds (suc i))) now next first
     (second ∙ ap (λ (b : List (List ℕ)). now ++ leaf_text g (suc i) b kind) p_is ∙ ap (λ (k : LeafKind). now ++ leaf_text g (suc i) (leaf_at ps (suc i)) k) kind_is)

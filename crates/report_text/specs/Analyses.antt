@@ -1,14 +1,14 @@
 -- The report of `analyse` as a function of the values in it.
 -- Stated by: report_text. Used by: bench_outcomes, bench_top, theorems.
 use Rattle.std.specs.Prelude.{List, ℕ, ◌++◌, codes, Option, Some, None}
-use Rattle.report_text.specs.Reports.{graph_line, components_line, bipartite_line, matching_line, deficiency_line, list_line, verdict_text}
+use Rattle.report_text.specs.Reports.{size_line, components_line, bipartite_line, matching_line, deficiency_line, list_line, verdict_text}
 use Rattle.report_text.specs.Structures.{structure_text}
 use Rattle.report_text.specs.declared.analyses.AnalysisLines.{AnalysisLines}
 use Rattle.report_text.specs.declared.structures.Structure.{Structure}
 
 -- the lines on the graph and its sides
 abbrev pub graph_lines : AnalysisLines → List ℕ
-graph_lines lines = (graph_line lines.order lines.size ++ components_line lines.components) ++ bipartite_line lines.bipartite
+graph_lines lines = (size_line lines.order lines.size ++ components_line lines.components) ++ bipartite_line lines.bipartite
 
 -- the lines on the graph, and on the numbers of its maximum matchings
 abbrev pub numbers_told : AnalysisLines → List ℕ

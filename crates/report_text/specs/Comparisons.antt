@@ -13,13 +13,13 @@ abbrev pub same_line : (leaves moves : ℕ) → List ℕ
 same_line leaves moves = codes "same leaves " ++ decimal leaves ++ codes " moves " ++ decimal moves ++ codes "\n"
 
 -- the line of a move: the word `move`, and the words that texts of moves have for it
-abbrev pub move_line : PlainMove → List ℕ
-move_line m = codes "move " ++ written (move_words m ∷ [])
+abbrev pub reported_move_line : PlainMove → List ℕ
+reported_move_line m = codes "move " ++ written (move_words m ∷ [])
 
 -- the lines of moves
 abbrev pub move_lines : List PlainMove → List ℕ
 move_lines [] = []
-move_lines (m ∷ moves) = move_line m ++ move_lines moves
+move_lines (m ∷ moves) = reported_move_line m ++ move_lines moves
 
 -- the line of a leaf and its partner, by their numbers
 abbrev pub partner_line : (leaf partner : ℕ) → List ℕ

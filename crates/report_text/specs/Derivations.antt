@@ -13,8 +13,8 @@ use Rattle.tree_core.specs.declared.tallies.LeafKind.{LeafKind}
 use Rattle.tree_core.specs.declared.tallies.Tally.{Tally}
 
 -- the line of a leaf with its number
-abbrev pub leaf_line : ℕ → LeafKind → List ℕ
-leaf_line number kind = codes "c leaf " ++ decimal number ++ codes " " ++ leaf_kind_word kind ++ codes "\n"
+abbrev pub numbered_leaf_line : ℕ → LeafKind → List ℕ
+numbered_leaf_line number kind = codes "c leaf " ++ decimal number ++ codes " " ++ leaf_kind_word kind ++ codes "\n"
 
 -- the lines of the first blocks, so many
 abbrev pub block_lines : List (List ℕ) → ℕ → List ℕ
@@ -39,12 +39,12 @@ adjacent_lines g p (suc k) =
 
 -- all lines of the leaf at a partition
 unfoldable pub leaf_text : Graph → ℕ → List (List ℕ) → LeafKind → List ℕ
-leaf_text g number p kind = (leaf_line number kind ++ block_lines p (length p)) ++ adjacent_lines g p (size (quotient g p))
+leaf_text g number p kind = (numbered_leaf_line number kind ++ block_lines p (length p)) ++ adjacent_lines g p (size (quotient g p))
 
 -- the lines of the first leaves, so many, in order
-abbrev pub leaf_lines : Graph → List (List (List ℕ)) → List LeafKind → ℕ → List ℕ
-leaf_lines g ps kinds zero = []
-leaf_lines g ps kinds (suc k) = leaf_lines g ps kinds k ++ leaf_text g (suc k) (leaf_at ps (suc k)) (kind_at kinds (suc k))
+abbrev pub numbered_leaf_lines : Graph → List (List (List ℕ)) → List LeafKind → ℕ → List ℕ
+numbered_leaf_lines g ps kinds zero = []
+numbered_leaf_lines g ps kinds (suc k) = numbered_leaf_lines g ps kinds k ++ leaf_text g (suc k) (leaf_at ps (suc k)) (kind_at kinds (suc k))
 
 -- the line of the counts
 abbrev pub tally_line : Tally → List ℕ
@@ -52,4 +52,4 @@ tally_line tally = codes "c" ++ tally_end tally
 
 -- a text, and after it the lines of the leaves and of their counts
 unfoldable pub derivation_text : List ℕ → Graph → List (List (List ℕ)) → List LeafKind → List ℕ
-derivation_text text g ps kinds = (text ++ leaf_lines g ps kinds (length ps)) ++ tally_line (tally_of kinds)
+derivation_text text g ps kinds = (text ++ numbered_leaf_lines g ps kinds (length ps)) ++ tally_line (tally_of kinds)

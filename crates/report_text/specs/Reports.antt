@@ -9,8 +9,8 @@ use Rattle.graph_core.specs.declared.verdict.Verdict.TheVariants.{Covered, NotCo
 use Rattle.report_text.specs.Words.{reason_word, yes_or_no}
 
 -- the line with the number of vertices and of edges
-abbrev pub graph_line : ℕ → ℕ → List ℕ
-graph_line order size = codes "graph " ++ decimal order ++ codes " " ++ decimal size ++ codes "\n"
+abbrev pub size_line : ℕ → ℕ → List ℕ
+size_line order size = codes "graph " ++ decimal order ++ codes " " ++ decimal size ++ codes "\n"
 
 -- a line of a word and a number
 abbrev pub count_line : List ℕ → ℕ → List ℕ

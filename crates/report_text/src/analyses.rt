@@ -1,6 +1,6 @@
 //! The report of `analyse`.
 ghost use Rattle.std.specs.Prelude.{◌≡◌, ◌++◌, [], codes, OnOk, IfOk, string_bytes};
-ghost use Rattle.report_text.specs.Common.{analysis_text, numbers_told, verdict_lines, with_structure, with_three_sets, bipartite_line, count_line, graph_line};
+ghost use Rattle.report_text.specs.Common.{analysis_text, numbers_told, verdict_lines, with_structure, with_three_sets, bipartite_line, count_line, size_line};
 
 use crate::numbers::{push_numbers_line, push_set_line};
 use crate::structures::{Structure, push_structure};
@@ -40,7 +40,7 @@ pub struct AnalysisLines {
 }
 
 fn push_graph(text: &mut String, order: u32, size: u32) -> Result<(), Memory>
-    ensures { OnOk result (string_bytes text.new ≡ string_bytes text.old ++ graph_line order size) }
+    ensures { OnOk result (string_bytes text.new ≡ string_bytes text.old ++ size_line order size) }
 {
     write!(text, "graph {order} {size}\n")
 }

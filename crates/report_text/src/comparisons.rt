@@ -2,7 +2,7 @@
 ghost use Rattle.std.specs.Prelude.{◌≡◌, ◌++◌, OnOk, IfOk, string_bytes};
 ghost use Rattle.graph_core.specs.Common.{names_of};
 ghost use Rattle.tree_core.specs.Common.{move_of, moves_of};
-ghost use Rattle.report_text.specs.Common.{image_line, image_lines, map_text, map_texts, move_line, move_lines, pairing_text, partner_line, same_line};
+ghost use Rattle.report_text.specs.Common.{image_line, image_lines, map_text, map_texts, reported_move_line, move_lines, pairing_text, partner_line, same_line};
 
 use contraction::{Partition, name_of};
 use graph_core::Numbers;
@@ -47,7 +47,7 @@ fn push_same(text: &mut String, leaves: usize, moves: usize) -> Result<(), Memor
 
 fn push_move_line(text: &mut String, item: &Move) -> Result<(), Memory>
     ensures { OnOk result
-        (string_bytes text.new ≡ string_bytes text.old ++ move_line (move_of item.now)) }
+        (string_bytes text.new ≡ string_bytes text.old ++ reported_move_line (move_of item.now)) }
 {
     write!(text, "move ")?;
     push_move(text, item)

@@ -3,7 +3,7 @@ ghost use Rattle.std.specs.Prelude.{◌≡◌, ◌<◌, ◌≤◌, ◌++◌, ◌
 ghost use Rattle.counting.specs.Common.{Within};
 ghost use Rattle.graph_core.specs.Common.{Graph, size, quotient};
 ghost use Rattle.tree_core.specs.Common.{AreLeafKinds, IsLeafKind, place_of, tally_of};
-ghost use Rattle.report_text.specs.Common.{adjacent_line, adjacent_lines, block_lines, derivation_text, leaf_line, leaf_lines, leaf_text, name_at, tally_line};
+ghost use Rattle.report_text.specs.Common.{adjacent_line, adjacent_lines, block_lines, derivation_text, numbered_leaf_line, numbered_leaf_lines, leaf_text, name_at, tally_line};
 ghost use Rattle.tree_core.specs.declared.tallies.LeafKind.{LeafKind};
 
 use crate::commenting::commented;
@@ -15,7 +15,7 @@ use std::alloc::{AllocError as Memory, Global};
 use tree_core::{KnownPlace, LeafKind, Partitions, Tally, kind_of, kinds_at, tallied};
 
 fn push_leaf_line(text: &mut String, number: usize, kind: LeafKind) -> Result<(), Memory>
-    ensures { OnOk result (string_bytes text.new ≡ string_bytes text.old ++ leaf_line number kind) }
+    ensures { OnOk result (string_bytes text.new ≡ string_bytes text.old ++ numbered_leaf_line number kind) }
 {
     let word = leaf_kind_word(kind);
     write!(text, "c leaf {number} {word}\n")
@@ -150,7 +150,7 @@ fn push_partitions(
         (λ kinds. AreLeafKinds g.now (map (λ p. p.blocks) leaves.now) kinds.items) }
     ensures lines { IfOk result
         (λ kinds. string_bytes text.new ≡ string_bytes text.old ++
-        leaf_lines g.now (map (λ p. p.blocks) leaves.now) kinds.items (length leaves.now)) }
+        numbered_leaf_lines g.now (map (λ p. p.blocks) leaves.now) kinds.items (length leaves.now)) }
 {
     let mut kinds = Vec::new(alloc);
     for i in 0..leaves.len() {
@@ -170,7 +170,7 @@ fn push_places(
     requires { length kinds.now ≡ length leaves.now }
     ensures { (g : Graph) (ps : List (List (List ℕ))) → leaves.now ≡ map (place_of g) ps →
         OnOk result (string_bytes text.new ≡ string_bytes text.old ++
-        leaf_lines g ps kinds.now (length ps)) }
+        numbered_leaf_lines g ps kinds.now (length ps)) }
 {
     for (i, leaf) in leaves.iter().enumerate() {
         push_place(alloc, text, i + 1, kinds[i], leaf)?;
@@ -198,7 +198,7 @@ fn comments_at_partitions(
         (λ comments. (kinds : List LeafKind) ×
         AreLeafKinds g.now (map (λ p. p.blocks) leaves.now) kinds ×
         (string_bytes comments ≡
-        leaf_lines g.now (map (λ p. p.blocks) leaves.now) kinds (length leaves.now) ++
+        numbered_leaf_lines g.now (map (λ p. p.blocks) leaves.now) kinds (length leaves.now) ++
         tally_line (tally_of kinds))) }
 {
     let mut comments = String::new(alloc);
@@ -215,7 +215,7 @@ fn comments_at_places(alloc: Global, leaves: &[KnownPlace]) -> Result<String, Me
     ensures { (g : Graph) (ps : List (List (List ℕ))) → leaves.now ≡ map (place_of g) ps →
         IfOk result (λ comments. (kinds : List LeafKind) × AreLeafKinds g ps kinds ×
         (string_bytes comments ≡
-        leaf_lines g ps kinds (length ps) ++ tally_line (tally_of kinds))) }
+        numbered_leaf_lines g ps kinds (length ps) ++ tally_line (tally_of kinds))) }
 {
     let kinds = kinds_at(alloc, leaves)?;
     let mut comments = String::new(alloc);

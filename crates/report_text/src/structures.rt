@@ -1,6 +1,6 @@
 //! The lines on the structure of a matching covered graph.
 ghost use Rattle.std.specs.Prelude.{◌≡◌, ◌++◌, OnOk, string_bytes};
-ghost use Rattle.report_text.specs.Common.{numbers_text, class_lines, classes_lines, pair_line, bicritical_line, cut_pair_line, kind_line, shore_of, structure_text};
+ghost use Rattle.report_text.specs.Common.{numbers_text, class_lines, classes_lines, pair_line, bicritical_line, cut_pair_line, leaf_kind_line, shore_of, structure_text};
 
 use crate::numbers::{push_set, push_set_line};
 use crate::words::kind_word;
@@ -16,7 +16,7 @@ pub struct Structure {
     pub classes: SetList,
     /// The first pair u < v in lexicographic order such that G - u - v has no perfect matching;
     /// none if the graph is bicritical.
-    pub unlike: Option<Ends>,
+    pub equivalent: Option<Ends>,
     /// The first pair u < v in lexicographic order such that G - u - v has at least two components,
     /// or none.
     pub cutpair: Option<Ends>,
@@ -53,11 +53,11 @@ fn push_pair_line(text: &mut String, words: &str, pair: Ends) -> Result<(), Memo
     write!(text, "{words} {a} {b}\n")
 }
 
-fn push_bicritical(text: &mut String, unlike: Option<Ends>) -> Result<(), Memory>
+fn push_bicritical(text: &mut String, equivalent: Option<Ends>) -> Result<(), Memory>
     ensures { OnOk result
-        (string_bytes text.new ≡ string_bytes text.old ++ bicritical_line unlike) }
+        (string_bytes text.new ≡ string_bytes text.old ++ bicritical_line equivalent) }
 {
-    match unlike {
+    match equivalent {
         None => write!(text, "bicritical yes\n"),
         Some(pair) => push_pair_line(text, "bicritical no", pair),
     }
@@ -84,7 +84,7 @@ fn push_shore(text: &mut String, kind: &Kind) -> Result<(), Memory>
 }
 
 fn push_kind(text: &mut String, kind: &Kind) -> Result<(), Memory>
-    ensures { OnOk result (string_bytes text.new ≡ string_bytes text.old ++ kind_line kind.now) }
+    ensures { OnOk result (string_bytes text.new ≡ string_bytes text.old ++ leaf_kind_line kind.now) }
 {
     let word = kind_word(kind);
     write!(text, "kind {word}")?;
@@ -99,7 +99,7 @@ pub fn push_structure(text: &mut String, structure: &Structure) -> Result<(), Me
         (string_bytes text.new ≡ string_bytes text.old ++ structure_text structure.now) }
 {
     push_classes(text, &structure.classes)?;
-    push_bicritical(text, structure.unlike)?;
+    push_bicritical(text, structure.equivalent)?;
     push_cut_pair(text, structure.cutpair)?;
     push_kind(text, &structure.kind)
 }

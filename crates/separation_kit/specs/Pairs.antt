@@ -6,8 +6,8 @@ use Rattle.graph_core.specs.Common.{Graph, has_perfect}
 use Rattle.separation_kit.specs.declared.pair.Pair.{Pair}
 
 -- the two vertices as a pair
-abbrev pub pair_of : Pair → ℕ × ℕ
-pair_of p = (p.a, p.b)
+abbrev pub pair_value : Pair → ℕ × ℕ
+pair_value p = (p.a, p.b)
 
 -- two vertices of 1 to n, the smaller first
 pub record IsPairIn (n : ℕ) (p : Pair) : Type 0 where

@@ -3,7 +3,7 @@
 ghost use Rattle.std.specs.Prelude.{◌≡◌, ◌↔◌, IfSome, IsTrue};
 ghost use Rattle.std.specs.Option.{option_map};
 ghost use Rattle.graph_core.specs.Common.{IsCovered, IsBipartite, IsBicritical, classes, cut_pair, equivalent_pair, IsWithinLimits};
-ghost use Rattle.separation_kit.specs.Pairs.{pair_of};
+ghost use Rattle.separation_kit.specs.Pairs.{pair_value};
 
 use crate::critical::{cut_pair, equivalent_pair};
 use crate::pair::Pair;
@@ -32,7 +32,7 @@ impl<'c, 'g> Model for FirstPairs<'c, 'g> {
 
     ghost view = { λ p. p.covered.now };
 
-    ghost invariant = { λ p. (option_map pair_of p.equivalent ≡ equivalent_pair p.covered.now) × (IsBicritical p.covered.now → option_map pair_of p.cut ≡ cut_pair p.covered.now) × IfSome p.lent (λ list. list.now ≡ classes p.covered.now) };
+    ghost invariant = { λ p. (option_map pair_value p.equivalent ≡ equivalent_pair p.covered.now) × (IsBicritical p.covered.now → option_map pair_value p.cut ≡ cut_pair p.covered.now) × IfSome p.lent (λ list. list.now ≡ classes p.covered.now) };
 }
 
 impl<'c, 'g> FirstPairs<'c, 'g> {
@@ -101,7 +101,7 @@ impl<'c, 'g> FirstPairs<'c, 'g> {
     /// The first pair u < v such that G - u - v has no perfect matching; none if and only if the
     /// graph is bicritical.
     pub fn equivalent(&self) -> Option<Pair>
-        ensures { option_map pair_of result ≡ equivalent_pair self.now }
+        ensures { option_map pair_value result ≡ equivalent_pair self.now }
     {
         self.equivalent
     }
@@ -119,7 +119,7 @@ impl<'c, 'g> FirstPairs<'c, 'g> {
     /// The first cut pair of a bicritical graph.
     pub fn cut(&self) -> Option<Pair>
         requires { IsBicritical self.now }
-        ensures { option_map pair_of result ≡ cut_pair self.now }
+        ensures { option_map pair_value result ≡ cut_pair self.now }
     {
         self.cut
     }
@@ -127,7 +127,7 @@ impl<'c, 'g> FirstPairs<'c, 'g> {
     /// The first cut pair, whether the graph is bicritical or not. It is searched for only if it is
     /// not known.
     pub fn any_cut(&self) -> Option<Pair>
-        ensures { option_map pair_of result ≡ cut_pair self.now }
+        ensures { option_map pair_value result ≡ cut_pair self.now }
     {
         if self.is_bicritical() {
             return self.cut();
@@ -138,8 +138,8 @@ impl<'c, 'g> FirstPairs<'c, 'g> {
 
 // The first cut pair of a graph that has no pair of equivalent vertices.
 fn cut_where_bicritical(c: &Covered, equivalent: Option<Pair>) -> Option<Pair>
-    requires { option_map pair_of equivalent ≡ equivalent_pair c.now }
-    ensures { IsBicritical c.now → option_map pair_of result ≡ cut_pair c.now }
+    requires { option_map pair_value equivalent ≡ equivalent_pair c.now }
+    ensures { IsBicritical c.now → option_map pair_value result ≡ cut_pair c.now }
 {
     match equivalent {
         Some(_) => None,

@@ -3,7 +3,7 @@ ghost use Rattle.std.specs.Prelude.{◌≡◌, ◌≤◌, fold, map, slice_get, 
 ghost use Rattle.std.specs.Option.{option_map};
 ghost use Rattle.counting.specs.Common.{Within, singleton, union, mem, rising_list, IsRisingIn};
 ghost use Rattle.graph_core.specs.Common.{IsCovered, IsBicritical, cut_pair, with_cut};
-ghost use Rattle.separation_kit.specs.Common.{pair_of, separation_cuts, shores_at_pair};
+ghost use Rattle.separation_kit.specs.Common.{pair_value, separation_cuts, shores_at_pair};
 
 use crate::critical::{is_cut_pair, parts_without};
 use crate::dominators::dominator_candidates;
@@ -51,7 +51,7 @@ fn add_pair_cuts(
     requires first { Within g.now.order pair.a }
     requires second { Within g.now.order pair.b }
     ensures { OnOk result
-        (cuts.new ≡ fold (with_cut g.now.order) cuts.old (shores_at_pair g.now (pair_of pair))) }
+        (cuts.new ≡ fold (with_cut g.now.order) cuts.old (shores_at_pair g.now (pair_value pair))) }
 {
     g.keeps_limits();
     let parts = parts_without(alloc, g, pair.a, pair.b)?;
@@ -93,7 +93,7 @@ pub fn first_separation_cut(alloc: Global, pairs: &FirstPairs) -> Result<Option<
 fn first_cut_at(alloc: Global, g: &MultiGraph, pair: Option<Pair>) -> Result<Option<VSet>, Memory>
     requires bicritical { IsBicritical g.now }
     requires four { 4 ≤ g.now.order }
-    requires pair { option_map pair_of pair ≡ cut_pair g.now }
+    requires pair { option_map pair_value pair ≡ cut_pair g.now }
     ensures { IfOk result (λ cut. cut ≡ slice_get (separation_cuts g.now) 0) }
 {
     g.keeps_limits();

@@ -23,7 +23,7 @@ use Rattle.tree_core.specs.declared.tallies.Tally.{Tally}
 use Rattle.tight_cuts.specs.Common.{Candidate}
 use Rattle.tree_text.specs.Common.{tree_text}
 use Rattle.bench_outcomes.proofs.DerivationTexts.{told}
-use Rattle.bench_outcomes.specs.Common.{EarsGives, double_count, single_count, Grown, IsCounted, Converted, DecomposeGives, TellsDerivation, given_or_plain, with_given_names}
+use Rattle.bench_outcomes.specs.Common.{EarsGives, double_count, single_count, Grown, IsCountedTree, Converted, DecomposeGives, TellsDerivation, given_or_plain, with_given_names}
 use Rattle.decomposer.specs.Common.{NamedPicks}
 use Rattle.bench_outcomes.specs.declared.status.Status.{Status}
 use Rattle.bench_outcomes.specs.declared.status.Status.TheVariants.{Done, Negative}
@@ -36,7 +36,7 @@ use Rattle.theorems.proofs.EarSteps.{ear-list-exists}
 use Rattle.theorems.proofs.LeafKindLists.{kinds-by_place, kinds-exist, tally-exists}
 use Rattle.theorems.proofs.PickedDerivations.{PicksSome, picked-tree}
 use Rattle.theorems.proofs.ReportsExist.{compared, covered_or_told}
-use Rattle.theorems.specs.Outcomes.{IsGiven}
+use Rattle.theorems.specs.Outcomes.{IsFileGraph}
 
 -- `ears`
 pub built-exists : (g : Graph) → IsMultigraph g → (status : Status) × (output : List ℕ) × EarsGives g status output
@@ -60,7 +60,7 @@ fits-names : (g : Graph) (names : Option (List (List ℕ))) → IsWithinLimits g
 fits-names g None limits given = record { multigraph = limits.multigraph; edges = limits.edges; named = plain_names-are g.order limits.vertices; one_each = length-plain_names g.order }
 fits-names g (Some names) limits given = let are = given names refl in record { multigraph = limits.multigraph; edges = limits.edges; named = are.0; one_each = are.1 }
 
-pub converted-exists : (named : NamedGraph) → IsGiven named → (status : Status) × (output : List ℕ) × Converted named status output
+pub converted-exists : (named : NamedGraph) → IsFileGraph named → (status : Status) × (output : List ℕ) × Converted named status output
 converted-exists named given = grind (arith, Stands-named_text, fits-names)
 
 -- `decompose`: the names are comments
@@ -72,7 +72,7 @@ names-commented n report (Some names) given = given_names-commented report (with
 is_read : (g : Graph) → IsWithinLimits g → IsRead g
 is_read g limits = record { ends = limits.multigraph.ends; no_loop = limits.multigraph.no_loop; vertices = limits.vertices; edges = limits.edges }
 
-told-derivation : (named : NamedGraph) (t : Shape) → IsGiven named → IsDerivation named.graph t → (output : List ℕ) × TellsDerivation named t Done output
+told-derivation : (named : NamedGraph) (t : Shape) → IsFileGraph named → IsDerivation named.graph t → (output : List ℕ) × TellsDerivation named t Done output
 told-derivation named t given d =
     let g = named.graph in
     let n = g.order in
@@ -83,7 +83,7 @@ told-derivation named t given d =
     let bytes = with_given_names report named.names true in
     (bytes, told named t n text text report bytes kinds.0 given.limits d refl refl (stands-derived g t (is_read g given.limits) d) refl right refl refl (names-commented n report named.names given.names))
 
-pub decomposition-exists : (picks : List Candidate → ℕ → ℕ → Type 0) (named : NamedGraph) → PicksSome picks → IsGiven named → (status : Status) × (output : List ℕ) × DecomposeGives picks named status output
+pub decomposition-exists : (picks : List Candidate → ℕ → ℕ → Type 0) (named : NamedGraph) → PicksSome picks → IsFileGraph named → (status : Status) × (output : List ℕ) × DecomposeGives picks named status output
 decomposition-exists picks named some given = elim (covered_or_told named.graph given.limits.multigraph) [
   | inr u ↦ (Negative, u.0, inr u.1)
   | inl cov ↦
@@ -96,7 +96,7 @@ grown-covered : (seed pieces : ℕ) → IsCovered (grown seed pieces)
 unfolding grown
 grown-covered seed pieces = (sound-from 0 (pieces - 1) (started 64 multiplier_64 seed (increment_of 64 1)) first_growth sound-first).covered
 
-counted-in : (order : NamedOrder) (g : Graph) → IsGraph g → IsCovered g → (t : Shape) × (tally : Tally) × IsCounted (NamedPicks order) g t tally
+counted-in : (order : NamedOrder) (g : Graph) → IsGraph g → IsCovered g → (t : Shape) × (tally : Tally) × IsCountedTree (NamedPicks order) g t tally
 counted-in order g is cov =
     let t = picked-tree (NamedPicks order) (named-some order) g is cov in
     let tally = tally-exists g is (leaves g.order t.0) (partitions-leaves g t.0 t.1) in

@@ -3,7 +3,7 @@
 -- induction on the list.
 use Rattle.std.proofs.Common.{[], ◌≡◌, ℕ, zero, suc, ◌-◌, ◌<◌, ◌≤◌, List, ◌∷◌, length, map, inl, inr, refl, ap, ap₂, arith}
 use Rattle.counting.proofs.Common.{cases_lt, length-map}
-use Rattle.decomposer.specs.Common.{NamedPicks, ScriptPicks, IsBalanced, PicksBalanced, gap}
+use Rattle.decomposer.specs.Common.{NamedPicks, ScriptPicks, IsMostBalanced, PicksBalanced, gap}
 use Rattle.decomposer.specs.declared.orders.NamedOrder.{NamedOrder}
 use Rattle.decomposer.specs.declared.orders.NamedOrder.TheVariants.{First, Last, Balanced}
 use Rattle.theorems.proofs.PickedDerivations.{PicksSome}
@@ -22,7 +22,7 @@ stored [] = ([], refl)
 stored (c ∷ list) = let s = stored_with c.shore c.inside c.outside c.origin in let t = stored list in (s.0 ∷ t.0, ap₂ ◌∷◌ s.1 t.1)
 
 -- the first place whose sides differ least
-least-more : (s t : StoredCandidate) (list : List StoredCandidate) → (place : ℕ) × IsBalanced (t ∷ list) place → (place : ℕ) × IsBalanced (s ∷ t ∷ list) place
+least-more : (s t : StoredCandidate) (list : List StoredCandidate) → (place : ℕ) × IsMostBalanced (t ∷ list) place → (place : ℕ) × IsMostBalanced (s ∷ t ∷ list) place
 least-more s t list found = elim (cases_lt (gap (t ∷ list) found.0) (gap (s ∷ t ∷ list) 0)) [
   | inl l ↦ (suc found.0, record { held = let h = found.1.held in omega arith; least = λ i j. beyond l i j; first = λ i j. before l i j })
   | inr n ↦ (0, record { held = omega arith; least = λ i j. here (omega arith) i j; first = λ i j. absurd (omega arith) })
@@ -40,11 +40,11 @@ least-more s t list found = elim (cases_lt (gap (t ∷ list) found.0) (gap (s �
     here l zero j = omega arith
     here l (suc i) j = let m = found.1.least i (omega arith) in omega arith
 
-least : (s : StoredCandidate) (list : List StoredCandidate) → (place : ℕ) × IsBalanced (s ∷ list) place
+least : (s : StoredCandidate) (list : List StoredCandidate) → (place : ℕ) × IsMostBalanced (s ∷ list) place
 least s [] = grind arith
 least s (t ∷ list) = least-more s t list (least t list)
 
-balanced-stored : (s : List StoredCandidate) → 0 < length s → (place : ℕ) × IsBalanced s place
+balanced-stored : (s : List StoredCandidate) → 0 < length s → (place : ℕ) × IsMostBalanced s place
 balanced-stored [] l = absurd (omega arith)
 balanced-stored (s ∷ list) l = least s list
 

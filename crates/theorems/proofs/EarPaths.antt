@@ -8,7 +8,7 @@ use Rattle.ear_core.proofs.MatedPaths.{fewer_left, next_is_clear, next_within, p
 use Rattle.ear_core.proofs.Mates.{AreMates}
 use Rattle.ear_core.proofs.Rounds.{left-clear, none-left, one-more, passed-too, path-mated, with_trail}
 use Rattle.ear_core.proofs.TraceEdges.{start_mem}
-use Rattle.ear_core.specs.Common.{AreMatedEars, HoldsMates, IsAlternating, IsClear, IsPerfectRows, KeepsMates, is_left, mate, PlainEar, trail, is_met}
+use Rattle.ear_core.specs.Common.{AreMatedEars, HoldsMatesOff, LeadsAlternately, IsClear, IsPerfectRows, KeepsMates, is_left, mate, PlainEar, trail, is_met}
 use Rattle.graph_core.proofs.Common.{degree_congr, Graph, IsGraph, degree, size, IsPerfect}
 use Rattle.match_core.proofs.MatchingEdges.{marked-edges, marked-of, marked_matching}
 use Rattle.match_core.specs.Common.{edges_of}
@@ -28,7 +28,7 @@ rows-hold g m e w t = ap (λ (es : List ℕ). mem es e) (marked-edges g m) ∙ m
 
 -- a path
 module _ (g : Graph) (is : IsGraph g) (met : Set) (m : ℕ → ℕ) (pm : AreMates g m) (n : ℕ → ℕ) (pn : AreMates g n) (keeps : KeepsMates g n met) where
-  pub path-exists : (fuel : ℕ) (z : Set) (v : ℕ) → Within g.order v → IsClear g met m n z v → count g.order (complement z) < fuel → (es : List ℕ) × IsAlternating g met m n z v es
+  pub path-exists : (fuel : ℕ) (z : Set) (v : ℕ) → Within g.order v → IsClear g met m n z v → count g.order (complement z) < fuel → (es : List ℕ) × LeadsAlternately g met m n z v es
   path-exists zero z v wv clear less = absurd (omega arith)
   path-exists (suc fuel) z v wv clear less = elim (cases_Bool (met (mate g m v))) [
     | inl t ↦ (m v ∷ [], path_ends g is met m pm n pn keeps z v wv clear t)
@@ -40,7 +40,7 @@ module _ (g : Graph) (is : IsGraph g) (met : Set) (m : ℕ → ℕ) (pm : AreMat
 
 -- a round of ears
 module _ (g : Graph) (is : IsGraph g) (f : Set) (m : ℕ → ℕ) (pm : AreMates g m) (n : ℕ → ℕ) (pn : AreMates g n) (keeps : KeepsMates g n (is_met g f)) where
-  one-ear : (z : Set) (v : ℕ) → Within g.order v → HoldsMates g (is_met g f) m n z → is_left (is_met g f) f m z v ≡ true → (es : List ℕ) × IsAlternating g (is_met g f) m n z v es
+  one-ear : (z : Set) (v : ℕ) → Within g.order v → HoldsMatesOff g (is_met g f) m n z → is_left (is_met g f) f m z v ≡ true → (es : List ℕ) × LeadsAlternately g (is_met g f) m n z v es
   one-ear z v wv holds left = path-exists g is (is_met g f) m pm n pn keeps (count g.order (complement z) + 1) z v wv (left-clear g f m n z v holds left) (omega arith)
 
   fewer-after : (z : Set) (v : ℕ) (es : List ℕ) → Within g.order v → is_left (is_met g f) f m z v ≡ true → count g.order (complement (with_trail g z (record { begin = v; edges = es }))) + 1 ≤ count g.order (complement z)
@@ -55,7 +55,7 @@ module _ (g : Graph) (is : IsGraph g) (f : Set) (m : ℕ → ℕ) (pm : AreMates
       flipped true h = absurd (true≢false (sym h))
       flipped false h = refl
 
-  pub ears-exist : (fuel : ℕ) (z : Set) → HoldsMates g (is_met g f) m n z → count g.order (complement z) < fuel → (ears : List PlainEar) × AreMatedEars g f m n z ears
+  pub ears-exist : (fuel : ℕ) (z : Set) → HoldsMatesOff g (is_met g f) m n z → count g.order (complement z) < fuel → (ears : List PlainEar) × AreMatedEars g f m n z ears
   ears-exist zero z holds less = absurd (omega arith)
   ears-exist (suc fuel) z holds less = elim (cases_eq (count g.order (is_left (is_met g f) f m z)) 0) [
     | inl i ↦ ([], none-left g f m n z (count_zero g.order (is_left (is_met g f) f m z) i))

@@ -31,7 +31,7 @@ use Rattle.mcg6_lines.specs.declared.standings.Standing.{Standing}
 use Rattle.mcg6_lines.specs.declared.standings.Standing.TheVariants.{Structured, Uncovered}
 use Rattle.mcg6_reader.specs.declared.place.LinePlace.{LinePlace}
 use Rattle.mcg6_top.proofs.ListsExist.{list_outcome, settled_end}
-use Rattle.mcg6_top.specs.Common.{HasAnswer, HasListOutcome, IsBadLine, TellsLineOf, is_further}
+use Rattle.mcg6_top.specs.Common.{HasAnswer, HasListOutcome, IsBadLine, TellsLineOf, is_past_graph}
 use Rattle.mcg6_top.specs.declared.command.AtBadLine.{AtBadLine}
 use Rattle.theorems.proofs.AnalysesExist.{structure_of}
 use Rattle.theorems.proofs.CommandOrders.{named-some}
@@ -191,20 +191,20 @@ module _ (g : Graph) (is : IsMultigraph g) where
   told (Select property) number line = selected property line
 
 -- each line, by whether it is a further one, and by what it stands for
-of_text : (query : Query) (place : LinePlace) (line : List ℕ) → IsFalse (is_further query place) → (r : Result Graph (ℕ × FaultKind)) → outcome_of line ≡ r →
+of_text : (query : Query) (place : LinePlace) (line : List ℕ) → IsFalse (is_past_graph query place) → (r : Result Graph (ℕ × FaultKind)) → outcome_of line ≡ r →
     ((output : List ℕ) × TellsLineOf query place line output) ⊎ ((fault : FaultKind) × IsBadLine query place line fault)
 of_text query place line first (Ok g) stands =
     let output = told g (read-multigraph line g stands) query place.number line in
     inl (output.0, (first, record { graph = g; stands = stands; told = output.1 }))
 of_text query place line first (Err fault) stands = inr (fault.1, inr (first, record { at = fault.0; fault = stands }))
 
-of_place : (query : Query) (place : LinePlace) (line : List ℕ) (further : Bool) → is_further query place ≡ further →
+of_place : (query : Query) (place : LinePlace) (line : List ℕ) (further : Bool) → is_past_graph query place ≡ further →
     ((output : List ℕ) × TellsLineOf query place line output) ⊎ ((fault : FaultKind) × IsBadLine query place line fault)
 of_place query place line true further = inr (Extra, inl (further, refl))
 of_place query place line false first = of_text query place line first (outcome_of line) refl
 
 pub line_told : (query : Query) → HasAnswer query
-line_told query place line = of_place query place line (is_further query place) refl
+line_told query place line = of_place query place line (is_past_graph query place) refl
 
 -- and so each list has an outcome
 pub list_told : (sample : Vec ℕ) (query : Query) (at_bad : AtBadLine) (bytes : List ℕ) → HasListOutcome query at_bad bytes

@@ -49,7 +49,7 @@ use Rattle.theorems.proofs.MovedShores.{shores-both}
 use Rattle.theorems.proofs.NamesRead.{HasNames, read-names}
 use Rattle.theorems.proofs.ReplaysExist.{replay-exists, script-exists}
 use Rattle.theorems.proofs.ReportsExist.{check-exists, comparison-exists, ear_check-exists}
-use Rattle.theorems.specs.Outcomes.{IsGiven}
+use Rattle.theorems.specs.Outcomes.{IsFileGraph}
 
 abbrev Reported : Task → Type 0
 Reported given = (status : Status) × (output : List ℕ) × ResultOf given status output
@@ -76,7 +76,7 @@ then-of (Absent file) next b e = let no : ⊥ = cc e in absurd no
 
 module _ (files : List NamedFile) where
   -- a graph
-  graph-given : (name : List ℕ) (named : NamedGraph) → graph_file files name ≡ All named → IsGiven named
+  graph-given : (name : List ℕ) (named : NamedGraph) → graph_file files name ≡ All named → IsFileGraph named
   graph-given name named e =
       let text = file-text 1 (reading_of either_version) (file_named name files) named e in
       let read = subst (GoesOn HasGraph) text.1 (read-graph text.0) in
@@ -105,7 +105,7 @@ module _ (files : List NamedFile) where
 
   -- a graph and a tree, two trees, and moves
   abbrev HoldsTree : NamedGraph × Shape → Type 0
-  HoldsTree given = IsGiven given.0 × HasShores given.0.graph.order given.1
+  HoldsTree given = IsFileGraph given.0 × HasShores given.0.graph.order given.1
 
   one-tree : (graph tree : List ℕ) (given : NamedGraph × Shape) → tree_given files graph tree ≡ All given → HoldsTree given
   one-tree graph tree given e =
@@ -116,7 +116,7 @@ module _ (files : List NamedFile) where
       subst HoldsTree second.2 (is, tree-shores 2 tree named.graph.order second.0 is.limits.vertices second.1)
 
   abbrev HoldsTrees : NamedGraph × (Shape × Shape) → Type 0
-  HoldsTrees given = IsGiven given.0 × HasShores given.0.graph.order given.1.0 × HasShores given.0.graph.order given.1.1
+  HoldsTrees given = IsFileGraph given.0 × HasShores given.0.graph.order given.1.0 × HasShores given.0.graph.order given.1.1
 
   two-trees : (graph one two : List ℕ) (given : NamedGraph × (Shape × Shape)) → trees_given files graph one two ≡ All given → HoldsTrees given
   two-trees graph one two given e =
@@ -127,7 +127,7 @@ module _ (files : List NamedFile) where
       subst HoldsTrees second.2 (is.0, is.1, tree-shores 3 two held.0.graph.order second.0 is.0.limits.vertices second.1)
 
   abbrev HoldsMoves : NamedGraph × (Shape × List PlainMove) → Type 0
-  HoldsMoves given = IsGiven given.0 × HasShores given.0.graph.order given.1.0
+  HoldsMoves given = IsFileGraph given.0 × HasShores given.0.graph.order given.1.0
 
   tree-moves : (graph tree moves : List ℕ) (given : NamedGraph × (Shape × List PlainMove)) → moves_given files graph tree moves ≡ All given → HoldsMoves given
   tree-moves graph tree moves given e =
@@ -137,7 +137,7 @@ module _ (files : List NamedFile) where
       subst HoldsMoves second.2 (one-tree graph tree held first.1)
 
   -- each verb, on what the files that it reads hold
-  on_graph : (verb : GraphVerb) (named : NamedGraph) → IsGiven named → Reported (task.OnGraph verb named)
+  on_graph : (verb : GraphVerb) (named : NamedGraph) → IsFileGraph named → Reported (task.OnGraph verb named)
   on_graph Analyse named is = analysed-exists named is.limits.multigraph
   on_graph Convert named is = converted-exists named is
   on_graph (Decompose order) named is = decomposition-exists (NamedPicks order) named (named-some order) is
@@ -149,10 +149,10 @@ module _ (files : List NamedFile) where
   of_tree : (verb : TreeVerb) (given : NamedGraph × Shape) → HoldsTree given → Reported (on_tree verb given)
   of_tree Check given is = check-exists given.0.graph given.1 is.0.limits.multigraph is.1
 
-  of_picks : (verb : PicksVerb) (named : NamedGraph) (picks : List ℕ) → IsGiven named → Reported (task.OnPicks verb named picks)
+  of_picks : (verb : PicksVerb) (named : NamedGraph) (picks : List ℕ) → IsFileGraph named → Reported (task.OnPicks verb named picks)
   of_picks DecomposeBy named picks is = decomposition-exists (ScriptPicks picks) named (script-some picks) is
 
-  of_ears : (verb : EarsVerb) (named : NamedGraph) (list : PlainEars) → IsGiven named → Within (size named.graph) list.start → Reported (task.OnEars verb named list)
+  of_ears : (verb : EarsVerb) (named : NamedGraph) (list : PlainEars) → IsFileGraph named → Within (size named.graph) list.start → Reported (task.OnEars verb named list)
   of_ears CheckEars named list is start = ear_check-exists named.graph list is.limits.multigraph start
 
   of_moves : (verb : MovesVerb) (given : NamedGraph × (Shape × List PlainMove)) → HoldsMoves given → Reported (on_moves verb given)

@@ -19,7 +19,7 @@ use Rattle.tree_core.proofs.Common.{partitions-leaves, IsDerivation, script_maps
 use Rattle.report_text.specs.Common.{pairing_text, ear_judgement_text, judgement_text, verdict_text}
 use Rattle.report_text.specs.declared.ear_judgements.EarLine.TheVariants as ear_line
 use Rattle.report_text.specs.declared.judgements.TreeLine.TheVariants as line
-use Rattle.bench_outcomes.specs.Common.{CheckGives, RefusedTree, shown_of, CompareGives, Compared, RefusesPair, lines_of, EarCheckGives, double_count, named_edge, single_count, Uncovered}
+use Rattle.bench_outcomes.specs.Common.{CheckGives, RefusedTree, shown_of, CompareGives, Compared, RefusesPair, map_lines_of, EarCheckGives, double_count, named_edge, single_count, Uncovered}
 use Rattle.bench_outcomes.specs.EarChecks as ear
 use Rattle.bench_outcomes.specs.declared.status.Status.{Status}
 use Rattle.bench_outcomes.specs.declared.status.Status.TheVariants.{Done, Negative}
@@ -90,7 +90,7 @@ compared g s t is ds dt =
     let st = singles_stage g is ds.covered in
     let rs = rising-derivation_at g (singles g.order) s ds.derives in
     let r = compare_law g (singles g.order) s t st rs ds.derives (rising-derivation_at g (singles g.order) t dt.derives) dt.derives in (
-      pairing_text r.0 (lines_of 0 (leaves g.order s) (script_maps g.order s r.0)),
+      pairing_text r.0 (map_lines_of 0 (leaves g.order s) (script_maps g.order s r.0)),
       record {
         moves = r.0;
         script = record { first = ds; second = dt; turns = script_through g s r.0 t ds.covered r.1; few = r.2 };

@@ -9,7 +9,7 @@ use Rattle.line_text.proofs.Decimals.{is_word-decimal, number-decimal, value-dec
 use Rattle.line_text.proofs.ReadBack.{is_closed-unlines, lines_of-append, lines_of-written, words_of-unwords}
 use Rattle.line_text.proofs.WrittenLines.{spaced, unwords-spaced, written-append}
 use Rattle.line_text.specs.Common.{AreWords, begin_with, is_number, is_word, lines_of, numbers_of, unwords, value_of, written}
-use Rattle.report_text.specs.Common.{analysis_text, bipartite_line, components_line, count_line, deficiency_line, graph_line, graph_lines, list_line, matching_line, numbers_text, numbers_told, verdict_lines, with_names_text, with_structure, with_three_sets}
+use Rattle.report_text.specs.Common.{analysis_text, bipartite_line, components_line, count_line, deficiency_line, size_line, graph_lines, list_line, matching_line, numbers_text, numbers_told, verdict_lines, with_names_text, with_structure, with_three_sets}
 use Rattle.report_text.specs.declared.analyses.AnalysisLines.{AnalysisLines}
 use Rattle.report_text.specs.declared.structures.Structure.{Structure}
 use Rattle.bench_outcomes.specs.Common.{with_given_names, IsAnalysis}
@@ -52,7 +52,7 @@ list-written word ns = grind (arith, numbers-spaced, append_assoc, spaced, unwor
 count-written : (word : List ℕ) (n : ℕ) → count_line word n ≡ written ((word ∷ decimal n ∷ []) ∷ [])
 count-written word n = ap (λ text. text ++ codes "\n") (append_assoc word (codes " ") (decimal n))
 
-graph-written : (n m : ℕ) → graph_line n m ≡ written ((codes "graph" ∷ decimal n ∷ decimal m ∷ []) ∷ [])
+graph-written : (n m : ℕ) → size_line n m ≡ written ((codes "graph" ∷ decimal n ∷ decimal m ∷ []) ∷ [])
 graph-written n m = ap (λ text. codes "graph " ++ (text ++ codes "\n")) (append_assoc (decimal n) (codes " ") (decimal m))
 
 bipartite-written : (holds : Bool) → bipartite_line holds ≡ written ((codes "bipartite" ∷ yes_word holds ∷ []) ∷ [])
@@ -96,8 +96,8 @@ module _ (lines : AnalysisLines) where
   numbers-written : numbers_told lines ≡ written number_lines
   numbers-written =
       let a = graph-written lines.order lines.size in
-      let b = next-written (graph_words ∷ []) components_words (graph_line lines.order lines.size) (components_line lines.components) a (count-written (codes "components") lines.components) in
-      let c = next-written (graph_words ∷ components_words ∷ []) bipartite_words (graph_line lines.order lines.size ++ components_line lines.components) (bipartite_line lines.bipartite) b (bipartite-written lines.bipartite) in
+      let b = next-written (graph_words ∷ []) components_words (size_line lines.order lines.size) (components_line lines.components) a (count-written (codes "components") lines.components) in
+      let c = next-written (graph_words ∷ components_words ∷ []) bipartite_words (size_line lines.order lines.size ++ components_line lines.components) (bipartite_line lines.bipartite) b (bipartite-written lines.bipartite) in
       let d = next-written (graph_words ∷ components_words ∷ bipartite_words ∷ []) matching_words (graph_lines lines) (matching_line lines.matching) c (count-written (codes "matching") lines.matching) in
       next-written (graph_words ∷ components_words ∷ bipartite_words ∷ matching_words ∷ []) deficiency_words (graph_lines lines ++ matching_line lines.matching) (deficiency_line lines.deficiency) d (count-written (codes "deficiency") lines.deficiency)
 

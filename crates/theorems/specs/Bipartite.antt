@@ -19,9 +19,9 @@ ArePairsMatched g a = (u v : ℕ) → Within g.order u → Within g.order v → 
 
 -- each ear is an ear of the edges before it, f and the earlier ears, and together they make all
 -- edges: f ∪ a₁ ∪ .. ∪ aₖ = E; nothing is asked of the stages between
-abbrev pub AreEars : Graph → Set → List PlainEar → Type 0
-AreEars g f [] = (e : ℕ) → Within (size g) e → f e ≡ true
-AreEars g f (a ∷ ears) = IsEar g f a.begin a.edges × AreEars g (with_edges f a.edges) ears
+abbrev pub AreEarsInTurn : Graph → Set → List PlainEar → Type 0
+AreEarsInTurn g f [] = (e : ℕ) → Within (size g) e → f e ≡ true
+AreEarsInTurn g f (a ∷ ears) = IsEar g f a.begin a.edges × AreEarsInTurn g (with_edges f a.edges) ears
 
 -- the digraph of the matching m is strongly connected: from each vertex of x an arc leads to its
 -- mate, from each other vertex arcs lead to all its neighbours, and a walk of arcs leads from each

@@ -12,7 +12,7 @@ use Rattle.graph_core.specs.declared.verdict.Kind.TheVariants.{Brace, Brick, Com
 use Rattle.graph_text.specs.Common.{NamedGraph, AreNames, either_version}
 use Rattle.tree_core.specs.Common.{IsDerivation, IsTightShore, PlainLeafMap, leaf_at, map_at, leaves, PlainMove, TurnsThrough, Shape, shores}
 use Rattle.tree_text.specs.Common.{tree_format}
-use Rattle.line_text.specs.Common.{Stands, begin_with, lines_of as text_lines, numbers_of, words_of}
+use Rattle.line_text.specs.Common.{Stands, begin_with, map_lines_of as text_lines, numbers_of, words_of}
 use Rattle.move_laws.specs.Common.{image}
 use Rattle.move_text.specs.Common.{move_format}
 use Rattle.ear_core.specs.Common.{IsEarList, IsSingle, IsUnrefinable, PlainEars, TakesSingles}
@@ -22,7 +22,7 @@ use Rattle.report_text.specs.declared.analyses.AnalysisLines.{AnalysisLines}
 use Rattle.report_text.specs.declared.structures.Structure.{Structure}
 use Rattle.bench_tasks.specs.Common.{pick_file}
 use Rattle.bench_tasks.specs.Common as loading
-use Rattle.bench_outcomes.specs.Common.{lines_of, with_given_names}
+use Rattle.bench_outcomes.specs.Common.{map_lines_of, with_given_names}
 use Rattle.bench_top.specs.Writes.{WroteWhole}
 use Rattle.theorems.specs.CutWords.{EndsInBrickOrBrace}
 use Rattle.theorems.specs.Ears.{IsDisjoint}
@@ -73,7 +73,7 @@ pub record TellsPairing (g : Graph) (s t : Shape) (output : List ℕ) : Type 0 w
   pub paired : PairsLeaves g (leaves g.order s) (leaves g.order t) (λ i. (map_at maps i).to) (λ i. image (leaf_at (leaves g.order t) (map_at maps i).to) (map_at maps i).images)
   pub moves : List PlainMove
   pub turns : TurnsThrough g s moves t
-  pub text : output ≡ pairing_text moves (lines_of 0 (leaves g.order s) maps)
+  pub text : output ≡ pairing_text moves (map_lines_of 0 (leaves g.order s) maps)
 
 -- the output of `analyse` says the kind of a matching covered graph: a brace is bipartite and a
 -- brick is not, and neither has a nontrivial tight cut; a brick is a graph that is not bipartite,
@@ -110,7 +110,7 @@ pub record TellsScript (g : Graph) (s t : Shape) (output : List ℕ) : Type 0 wh
 
 -- what a graph file can hold: a multigraph of at most 128 vertices and 2048 edges, and names, if
 -- there are any, that differ, one for each vertex
-pub record IsGiven (named : NamedGraph) : Type 0 where
+pub record IsFileGraph (named : NamedGraph) : Type 0 where
   pub limits : IsWithinLimits named.graph
   pub names : ForSome named.names (λ names. AreNames names × (length names ≡ named.graph.order))
 

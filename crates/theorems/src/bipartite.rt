@@ -6,7 +6,7 @@ ghost use Rattle.std.specs.Prelude.{◌≡◌, ℕ, ◌≤◌, ◌↔◌, true, 
 ghost use Rattle.counting.specs.Common.{Within, complement, count, everything, none, Set, singleton};
 ghost use Rattle.graph_core.specs.Common.{Graph, HasPerfect, IsConnected, IsCovered, IsMultigraph, IsPerfect, IsSide, size};
 ghost use Rattle.ear_core.specs.Common.{is_met, PlainEar};
-ghost use Rattle.theorems.specs.Bipartite.{AreEars, ArePairsMatched, HasSurplus, IsStrong};
+ghost use Rattle.theorems.specs.Bipartite.{AreEarsInTurn, ArePairsMatched, HasSurplus, IsStrong};
 ghost use Rattle.theorems.specs.Braces.{neighbourhood};
 
 /// The marriage theorem: a bipartite graph with the sides A and B has a perfect matching if and
@@ -41,7 +41,7 @@ pub fn hetyei_law()
         ArePairsMatched g a) }
     ensures ears { (g : Graph) (a : Set) → IsMultigraph g → IsSide g a →
         IsCovered g ↔ ((e : ℕ) × (ears : List PlainEar) × Within (size g) e ×
-        AreEars g (singleton e) ears ×
+        AreEarsInTurn g (singleton e) ears ×
         ((v : ℕ) → Within g.order v → is_met g everything v ≡ true)) }
     ensures digraph { (g : Graph) (a m : Set) → IsMultigraph g → IsSide g a → 2 ≤ g.order →
         IsPerfect g none m → IsCovered g ↔ IsStrong g a m }

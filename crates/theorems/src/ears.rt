@@ -9,7 +9,7 @@ ghost use Rattle.ear_core.specs.Common.{IsEarList, IsSingle, IsUnrefinable, Plai
 ghost use Rattle.graph_core.specs.Common.{IsCovered, Graph, IsBipartite, IsGraph, IsMultigraph, in_cut, size, HasPerfect, IsSide, with_ends};
 ghost use Rattle.theorems.specs.Ears.{ear_count, IsConformal, IsDisjoint};
 ghost use Rattle.two_ears.specs.AddedEdges.{with_pairs};
-ghost use Rattle.two_ears.specs.VertexPairs.{AreDisjoint, in_pairs, vertices_of};
+ghost use Rattle.two_ears.specs.VertexPairs.{AreDisjoint, in_pairs, set_of_pair};
 
 /// Each matching covered graph has an edge, and from each edge an ear decomposition with steps of
 /// one ear or two, where two ears are added only at a stage from which no ear decomposition goes on
@@ -50,7 +50,7 @@ pub fn two_ear_law()
     ensures pairs { (g : Graph) (ps : List (ℕ × ℕ)) → IsGraph g → IsCovered g → ps ≢ [] →
         AreDisjoint g.order ps → HasPerfect g (in_pairs ps) →
         (p : ℕ × ℕ) × (q : ℕ × ℕ) × IsIn p ps × IsIn q ps ×
-        HasPerfect g (union (vertices_of p) (vertices_of q)) }
+        HasPerfect g (union (set_of_pair p) (set_of_pair q)) }
     ensures edges { (g : Graph) (ps : List (ℕ × ℕ)) → IsGraph g → IsCovered g → ps ≢ [] →
         ((p : ℕ × ℕ) → IsIn p ps → Within g.order p.0 × Within g.order p.1) →
         ((p : ℕ × ℕ) → IsIn p ps → p.0 ≢ p.1) → IsCovered (with_ends g (with_pairs g.ends ps)) →

@@ -27,7 +27,7 @@ ghost use Rattle.bench_top.specs.Given.{GivenOutcome};
 ghost use Rattle.mcg6_lines.specs.declared.query.Query.{Query};
 ghost use Rattle.mcg6_top.specs.Common.{HasAnswer, HasListOutcome};
 ghost use Rattle.mcg6_top.specs.declared.command.AtBadLine.{AtBadLine};
-ghost use Rattle.theorems.specs.Outcomes.{HoldsPicks, IsDoneRun, IsGiven, StandsForGraph, StandsForTree, TellsDecomposition, TellsEars, TellsKind, TellsPairing, TellsScript, TellsSets};
+ghost use Rattle.theorems.specs.Outcomes.{HoldsPicks, IsDoneRun, IsFileGraph, StandsForGraph, StandsForTree, TellsDecomposition, TellsEars, TellsKind, TellsPairing, TellsScript, TellsSets};
 
 use outside::{Shelf, Sink};
 
@@ -164,12 +164,12 @@ pub fn report_exists_law()
         (status : Status) × (output : List ℕ) × ResultOf (OnGraph Analyse named) status output }
     ensures analyse6 { (g : Graph) → IsMultigraph g →
         (status : Status) × (output : List ℕ) × ResultOf (OnSimpleGraph Analyse6 g) status output }
-    ensures convert { (named : NamedGraph) → IsGiven named →
+    ensures convert { (named : NamedGraph) → IsFileGraph named →
         (status : Status) × (output : List ℕ) × ResultOf (OnGraph Convert named) status output }
-    ensures decompose { (named : NamedGraph) (order : NamedOrder) → IsGiven named →
+    ensures decompose { (named : NamedGraph) (order : NamedOrder) → IsFileGraph named →
         (status : Status) × (output : List ℕ) ×
         ResultOf (OnGraph (Decompose order) named) status output }
-    ensures decompose_by { (named : NamedGraph) (picks : List ℕ) → IsGiven named →
+    ensures decompose_by { (named : NamedGraph) (picks : List ℕ) → IsFileGraph named →
         (status : Status) × (output : List ℕ) ×
         ResultOf (OnPicks DecomposeBy named picks) status output }
     ensures check { (named : NamedGraph) (t : Shape) → IsMultigraph named.graph →
@@ -188,7 +188,7 @@ pub fn report_exists_law()
     ensures compare { (named : NamedGraph) (s t : Shape) → IsMultigraph named.graph →
         HasShores named.graph.order s → HasShores named.graph.order t →
         (status : Status) × (output : List ℕ) × ResultOf (OnTrees Compare named s t) status output }
-    ensures script { (named : NamedGraph) (s t : Shape) → IsGiven named →
+    ensures script { (named : NamedGraph) (s t : Shape) → IsFileGraph named →
         HasShores named.graph.order s → HasShores named.graph.order t →
         (status : Status) × (output : List ℕ) × ResultOf (OnTrees Script named s t) status output }
     ensures grow { (seed pieces : ℕ) →

@@ -7,14 +7,14 @@ use Rattle.tight_cuts.proofs.EdgeLoop.{high_within, low_within, step_covers}
 use Rattle.tight_cuts.proofs.FirstPairs.{no_first}
 use Rattle.tight_cuts.proofs.FrontCandidates.{edge-known}
 use Rattle.tight_cuts.proofs.LeastShores.{parts_nontrivial, separated_says}
-use Rattle.tight_cuts.specs.Common.{cuts, first_separated, greater_end, is_separated, lesser_end, with_edge_cut, with_pair, Candidate, AreClusters, AreUnparted}
+use Rattle.tight_cuts.specs.Common.{cuts, first_separated, greater_end, is_separated, lesser_end, with_edge_cut, with_intersection, Candidate, AreClusters, AreUnparted}
 
 module _ (g : Graph) (is : IsGraph g) (cov : IsCovered g) (e : ℕ) (we : Within (size g) e) where
   -- if no pair is separated at an edge, no nontrivial tight cut has the edge
   pub none_unparted : first_separated g e ≡ None → AreUnparted g (first_end g e) (second_end g e)
   none_unparted none x t nt = elim (cases_Bool (in_cut g x e)) [
     | inl c ↦ let covered = step_covers g is cov e we [] x t nt c in
-        let same : with_edge_cut g [] e ≡ [] = ap (with_pair g (lesser_end g e) (greater_end g e) []) none in
+        let same : with_edge_cut g [] e ≡ [] = ap (with_intersection g (lesser_end g e) (greater_end g e) []) none in
         absurd (both_ways (list_any (cuts g e) []) refl (ap (list_any (cuts g e)) (sym same) ∙ covered))
     | inr f ↦ grind arith
   ]

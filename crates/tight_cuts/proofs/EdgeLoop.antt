@@ -3,7 +3,7 @@
 use Rattle.std.proofs.Common.{◌≡◌, ℕ, suc, zero, ◌≤◌, Bool, true, false, cond, ◌==◌, refl, sym, ap, ap₂, ◌∙◌, arith, ◌&&◌, ◌||◌, not, inl, inr, ◌⊎◌, List, [], ◌∷◌, subst, map, flat_map, Option, Some, None, eq-eqb, ne_eqb, eqb-true, All, find, fold, AllPairs}
 use Rattle.counting.proofs.Common.{cases_eq, cases_lt, cases_Bool, and_parts, or_from, or_left, or_right, true≢false, both_ways, not-true, list_any-append, count_minus, count_member, some_true, some_none, some_congr, or_false, list_any, Within, rising_list, ordered_pairs, pair_with, Set, complement, minus, singleton, everything, pair_set, some}
 use Rattle.std.proofs.lemmas.List.Sums.{fold_push}
-use Rattle.tight_cuts.specs.Common.{ShoresDiffer, Flow, cuts, lesser_end, greater_end, first_separated, Candidate, is_separated, common_shore, with_pair, with_edge_cut, IsTightCandidate, SeparatesTightly}
+use Rattle.tight_cuts.specs.Common.{ShoresDiffer, Flow, cuts, lesser_end, greater_end, first_separated, Candidate, is_separated, common_shore, with_intersection, with_edge_cut, IsTightCandidate, SeparatesTightly}
 use Rattle.graph_core.proofs.Common.{IsCovered, Graph, size, first_end, second_end, IsGraph, in_cut, has_ends, IsTight, IsNontrivial}
 use Rattle.tight_cuts.proofs.LeastShores.{separated_says, separated_found, common_parts, parts_nontrivial}
 use Rattle.tight_cuts.proofs.PairsOfEdges.{cut_between}
@@ -82,21 +82,21 @@ module _ (g : Graph) (is : IsGraph g) (cov : IsCovered g) (e : ℕ) (we : Within
 
   module _ (list : List Candidate) where
     edge_cases : ((list_any (cuts g e) list ≡ true) × (with_edge_cut g list e ≡ list))
-        ⊎ ((list_any (cuts g e) list ≡ false) × (with_edge_cut g list e ≡ with_pair g (lesser_end g e) (greater_end g e) list (first_separated g e)))
+        ⊎ ((list_any (cuts g e) list ≡ false) × (with_edge_cut g list e ≡ with_intersection g (lesser_end g e) (greater_end g e) list (first_separated g e)))
     edge_cases = grind arith
 
     -- the list stays one of tight nontrivial canonical shores
     pub step_found : All (IsTightCandidate g) list → All (IsTightCandidate g) (with_edge_cut g list e)
     step_found h = grind (arith, edge_cases, go (first_separated g e) refl)
       where
-        go : (o : Option (ℕ × ℕ)) → first_separated g e ≡ o → All (IsTightCandidate g) (with_pair g (lesser_end g e) (greater_end g e) list o)
+        go : (o : Option (ℕ × ℕ)) → first_separated g e ≡ o → All (IsTightCandidate g) (with_intersection g (lesser_end g e) (greater_end g e) list o)
         go o q = grind (arith, first_pair g.order (is_separated g (lesser_end g e) (greater_end g e)), with_found g Flow list, shore_parts)
 
     pub step_grows : (p : Candidate → Bool) → list_any p list ≡ true → list_any p (with_edge_cut g list e) ≡ true
     step_grows p h = grind (arith, edge_cases, with_grows)
 
     cover_side : (x : Set) → IsTight g x → IsNontrivial g.order x → x (lesser_end g e) ≡ true → x (greater_end g e) ≡ false →
-        list_any (cuts g e) (with_pair g (lesser_end g e) (greater_end g e) list (first_separated g e)) ≡ true
+        list_any (cuts g e) (with_intersection g (lesser_end g e) (greater_end g e) list (first_separated g e)) ≡ true
     cover_side x t nt xa xb = go (first_separated g e) refl
       where
         in_x : (v : ℕ) × Within g.order v × ((x v && not (lesser_end g e == v)) ≡ true)
@@ -115,7 +115,7 @@ module _ (g : Graph) (is : IsGraph g) (cov : IsCovered g) (e : ℕ) (we : Within
             (or_from (lesser_end g e == out_x.0) (greater_end g e == out_x.0) (ne_eqb (lesser_end g e) out_x.0 (λ s. both_ways (x (lesser_end g e)) (ap x s ∙ r) xa)) (not-true (greater_end g e == out_x.0) q.1))
             (record { tight = t; has_a = xa; has_x = p.0; lacks_b = xb; lacks_y = r })
 
-        go : (o : Option (ℕ × ℕ)) → first_separated g e ≡ o → list_any (cuts g e) (with_pair g (lesser_end g e) (greater_end g e) list o) ≡ true
+        go : (o : Option (ℕ × ℕ)) → first_separated g e ≡ o → list_any (cuts g e) (with_intersection g (lesser_end g e) (greater_end g e) list o) ≡ true
         go None q = absurd (both_ways (is_separated g (lesser_end g e) (greater_end g e) (in_x.0, out_x.0)) (no_pair g.order (is_separated g (lesser_end g e) (greater_end g e)) q in_x.0 out_x.0 in_x.1 out_x.1) separated)
         go (Some k) q = let c = shore_cuts k q in with_covers g Flow list (common_shore g (lesser_end g e) (greater_end g e) k) e is we c.0 c.1
 

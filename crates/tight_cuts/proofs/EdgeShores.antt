@@ -10,7 +10,7 @@ use Rattle.tight_cuts.proofs.LeaderGroups.{leaders_group}
 use Rattle.tight_cuts.proofs.Leaders.{leader-least, leader-fixed}
 use Rattle.tight_cuts.proofs.Networks.{back, back_odd, least_back, least_common, least_once, parts_nodes}
 use Rattle.tight_cuts.proofs.PiecesOfEdges.{beside_graph}
-use Rattle.tight_cuts.specs.Common.{lesser_end, greater_end, common_shore, AreGroups, AreLeaders, AreLeadersAt, AreWeights, IsBeyond, IsCommonShore, IsCutOfGroups, Leads, arcs_by, at_place, group_net, row_group, weight, SeparatesTightly, arcs_of, contracted_net, group_of, leader, IsGrouping}
+use Rattle.tight_cuts.specs.Common.{lesser_end, greater_end, common_shore, AreGroups, AreLeaders, AreLeadersAt, AreWeights, LeadsBeyond, IsCommonShore, IsCutOfGroups, Leads, arcs_by, at_place, group_net, row_group, weight, SeparatesTightly, arcs_of, contracted_net, group_of, leader, IsGrouping}
 
 -- a total of numbers up to 2048
 pub total_small : (n : ℕ) (f : ℕ → ℕ) → ((v : ℕ) → Within n v → f v ≤ 2048) → total n f ≤ 2048 * n
@@ -74,7 +74,7 @@ module _ (g : Graph) (is : IsGraph g) (a b e : ℕ) (wa : Within g.order a) (wb 
   pub least_leads : (x : ℕ) → Within g.order x → pair_set a b x ≡ false → is_least ld.beside (pair_set a b) x ≡ true → Leads g a b leaders x
   least_leads x wx o l = grind (arith, leader-fixed, beside_is)
 
-  module _ (x y : ℕ) (lx : Leads g a b leaders x) (beyond : IsBeyond g a b leaders x y) where
+  module _ (x y : ℕ) (lx : Leads g a b leaders x) (beyond : LeadsBeyond g a b leaders x y) where
     abbrev pub groups : ℕ → ℕ
     groups v = group_of a b x y (leader (components ld.beside (pair_set a b)) v)
 
@@ -151,7 +151,7 @@ pub record GroupFacts (g : Graph) (list : List (List ℕ)) (leaders weights : Li
   pub cut : (set : List ℕ) (value : ℕ) → IsLeastCut (group_net g weights leaders a b x y) a b set value → value ≤ bound → (s : Set) → ((v : ℕ) → Within g.order v → s v ≡ mem set (row_group a b x y leaders v)) → IsCutShore g a b list x y s
   pub none : (HasCutWithin (group_net g weights leaders a b x y) a b bound → ⊥) → (z : Set) → SeparatesTightly g a b (x, y) z → ⊥
 
-pub group_facts : (g : Graph) (list : List (List ℕ)) (leaders weights : List ℕ) (bound x y a b e : ℕ) → IsWithinLimits g → AreLeadersAt g a b e leaders → AreWeights g list weights bound → Leads g a b leaders x → IsBeyond g a b leaders x y → GroupFacts g list leaders weights bound x y a b
+pub group_facts : (g : Graph) (list : List (List ℕ)) (leaders weights : List ℕ) (bound x y a b e : ℕ) → IsWithinLimits g → AreLeadersAt g a b e leaders → AreWeights g list weights bound → Leads g a b leaders x → LeadsBeyond g a b leaders x y → GroupFacts g list leaders weights bound x y a b
 group_facts g list leaders weights bound x y a b e lim at weighed lx beyond =
     let is = lim.multigraph.ends in
     let w = ends_within g is a b e at.edge at.ends in

@@ -10,7 +10,7 @@ use Rattle.separation_kit.specs.Common.{separation_cuts, separation_shores}
 use Rattle.tight_cuts.proofs.CandidateLists.{candidate-list, fold-cuts, choose-false, choose-true}
 use Rattle.tight_cuts.proofs.EdgeLoop.{after_edges, after_suc, shore_cuts}
 use Rattle.tight_cuts.proofs.Shores.{with_new}
-use Rattle.tight_cuts.specs.Common.{Barrier, Candidate, Flow, Origin, Separation, candidate_at, candidates, common_shore, cuts, first_of, first_separated, front_candidates, greater_end, lesser_end, with_edge_cut, with_list, with_pair, with_shore, IsShoreOfEdge}
+use Rattle.tight_cuts.specs.Common.{Barrier, Candidate, Flow, Origin, Separation, candidate_at, candidates, common_shore, cuts, first_of, first_separated, front_candidates, greater_end, lesser_end, with_edge_cut, with_list, with_intersection, with_shore, IsShoreOfEdge}
 
 -- the cuts of shores, as candidates
 cuts-candidates : (n : ℕ) (o : Origin) (shores : List (List ℕ)) → fold (with_list n o) [] shores ≡ map (candidate_at n o) (fold (with_cut n) [] shores)
@@ -67,7 +67,7 @@ shore-congr n o list x y w h = grind (arith, count_congr, rising_list-congr, nat
 module _ (g : Graph) (list : List Candidate) (e : ℕ) where
   -- an edge in the cut of a candidate adds nothing
   pub edge-known : list_any (cuts g e) list ≡ true → list ≡ with_edge_cut g list e
-  edge-known h = sym (choose-true (list_any (cuts g e) list) list (with_pair g (lesser_end g e) (greater_end g e) list (first_separated g e)) h)
+  edge-known h = sym (choose-true (list_any (cuts g e) list) list (with_intersection g (lesser_end g e) (greater_end g e) list (first_separated g e)) h)
 
   -- an edge that gives a shore
   pub edge-shore : (after : List Candidate) (s : List ℕ) → Within g.order g.order → list_any (cuts g e) list ≡ false → IsShoreOfEdge g e (Some s) → after ≡ with_list g.order Flow list s → after ≡ with_edge_cut g list e

@@ -6,7 +6,7 @@ use Rattle.counting.proofs.Common.{cases_Bool, or_cases, or_left, or_right, both
 use Rattle.graph_core.proofs.Common.{joined_walk, walk_joined, joined_self, is_least, components, Graph, IsGraph, Joined, joined}
 use Rattle.barrier_kit.proofs.Common.{leads_out}
 use Rattle.tight_cuts.proofs.Leaders.{leader-fixed, leader-joined, leader-joins, leader-least, leader-own}
-use Rattle.tight_cuts.specs.Common.{leader, group_of, with_piece, IsGrouping}
+use Rattle.tight_cuts.specs.Common.{leader, group_of, in_piece, IsGrouping}
 
 -- a walk of h without s from a vertex of s leads to that vertex alone
 removed_alone : (h : Graph) (s : Set) (u v : ℕ) → s u ≡ true → Joined h s u v → u ≡ v
@@ -61,10 +61,10 @@ module _ (g h : Graph) (is : IsGraph h) (order : h.order ≡ g.order) (a b : ℕ
   led_by : (u v : ℕ) → Within g.order u → Within g.order v → is_least h (pair_set a b) u ≡ true → joined h (pair_set a b) u v ≡ true → piece_leader v ≡ u
   led_by u v wu wv l j = sym (leader-joined h (pair_set a b) is u v (inside u wu) (inside v wv) (leads_out h (pair_set a b) u l) j) ∙ leader-fixed h (pair_set a b) is u (inside u wu) l
 
-  in_source : (v : ℕ) → Within g.order v → with_piece h a b a x v ≡ true → group v ≡ a
+  in_source : (v : ℕ) → Within g.order v → in_piece h a b a x v ≡ true → group v ≡ a
   in_source v w t = grind (arith, or_cases (a == v) (joined h (pair_set a b) x v) t, eqb-true a v, group_end a wa is_a, is_a, led_by x v wx w lx, lead_x)
 
-  in_sink : (v : ℕ) → Within g.order v → with_piece h a b b y v ≡ true → group v ≡ b
+  in_sink : (v : ℕ) → Within g.order v → in_piece h a b b y v ≡ true → group v ≡ b
   in_sink v w t = elim (or_cases (b == v) (joined h (pair_set a b) y v) t) [
     | inl e ↦ let q = eqb-true b v e in ap group (sym q) ∙ group_end b wb is_b
     | inr j ↦ grind (arith, led_by y v wy w, lead_y, removed_alone h (pair_set a b) y v, is_b, joined_walk h (pair_set a b) y v j, group_end b wb is_b)
@@ -96,10 +96,10 @@ module _ (g h : Graph) (is : IsGraph h) (order : h.order ≡ g.order) (a b : ℕ
   led_joined u v wu wv l o e = leader-joins h (pair_set a b) is u v (inside u wu) (inside v wv) (leads_out h (pair_set a b) u l) o (leader-fixed h (pair_set a b) is u (inside u wu) l ∙ sym e)
 
   abbrev OneGroup : ℕ → ℕ → Type 0
-  OneGroup u v = (joined h (pair_set a b) u v ≡ true) ⊎ (((with_piece h a b a x u ≡ true) × (with_piece h a b a x v ≡ true)) ⊎ ((with_piece h a b b y u ≡ true) × (with_piece h a b b y v ≡ true)))
+  OneGroup u v = (joined h (pair_set a b) u v ≡ true) ⊎ (((in_piece h a b a x u ≡ true) × (in_piece h a b a x v ≡ true)) ⊎ ((in_piece h a b b y u ≡ true) × (in_piece h a b b y v ≡ true)))
 
   -- an end of the edge and a vertex outside in one group
-  end_apart : (u v : ℕ) → Within g.order u → Within g.order v → pair_set a b u ≡ true → pair_set a b v ≡ false → group u ≡ group v → ((with_piece h a b a x u ≡ true) × (with_piece h a b a x v ≡ true)) ⊎ ((with_piece h a b b y u ≡ true) × (with_piece h a b b y v ≡ true))
+  end_apart : (u v : ℕ) → Within g.order u → Within g.order v → pair_set a b u ≡ true → pair_set a b v ≡ false → group u ≡ group v → ((in_piece h a b a x u ≡ true) × (in_piece h a b a x v ≡ true)) ⊎ ((in_piece h a b b y u ≡ true) × (in_piece h a b b y v ≡ true))
   end_apart u v wu wv pu pv q =
       let off = off_pair v wv pv in
       let e = group_end u wu pu in

@@ -3,12 +3,12 @@
 use Rattle.std.proofs.Common.{◌≡◌, ℕ, suc, zero, ◌+◌, ◌*◌, ◌≤◌, Bool, true, false, cond, ◌==◌, refl, sym, ap, ◌∙◌, arith, ◌&&◌, eq-eqb, eqb-true, List, [], ◌∷◌, length, sum_by, All}
 use Rattle.counting.proofs.Common.{same_tests, and_parts, and_from, or_cases, or_left, or_right, sum_by-cons, some_true, true_some, total_congr, total_add, total_none, bit, total, count, Within, is_odd, mem, none, Set, complement, pair_set, some}
 use Rattle.std.proofs.lemmas.List.Sums.{sum_by-append}
-use Rattle.flow_core.specs.Common.{leaves_set, value_of, Separates, IsLeastCut}
+use Rattle.flow_core.specs.Common.{leaves_set, cut_value, Separates, IsLeastCut}
 use Rattle.graph_core.proofs.Common.{walk_joined, tight-same, joined_self, Graph, size, IsGraph, in_cut, edges_in_cut, has_ends, IsPerfect, IsTight, joined}
 use Rattle.tight_cuts.proofs.LeastShores.{common_in, common_from}
 use Rattle.tight_cuts.proofs.PairsOfEdges.{met_bound, met_once, tight_met, cut_between}
 use Rattle.tight_cuts.proofs.PiecesOfEdges.{pieces_odd, tight_piece, beside_graph}
-use Rattle.tight_cuts.specs.Common.{common_shore, weight, cut_sum, SeparatesTightly, IsBeside, arcs_of, contracted_net, with_piece, IsGrouping}
+use Rattle.tight_cuts.specs.Common.{common_shore, weight, cut_sum, SeparatesTightly, IsBeside, arcs_of, contracted_net, in_piece, IsGrouping}
 
 -- the weights in a cut are its edges in all the matchings
 pub weights_cut : (g : Graph) (ms : List (List ℕ)) (x : Set) → total (size g) (λ e. weight ms e * bit (in_cut g x e)) ≡ cut_sum g ms x
@@ -28,7 +28,7 @@ arcs_value : (g : Graph) (ms : List (List ℕ)) (group : ℕ → ℕ) (u : Set) 
 arcs_value g ms group u zero = refl
 arcs_value g ms group u (suc e) = grind (arith, sum_by-append, arcs_value g ms group u e)
 
-pub value_cut : (g : Graph) (ms : List (List ℕ)) (group : ℕ → ℕ) (r : ℕ) (u : Set) → value_of (contracted_net g ms group r) u ≡ cut_sum g ms (λ v. u (group v))
+pub value_cut : (g : Graph) (ms : List (List ℕ)) (group : ℕ → ℕ) (r : ℕ) (u : Set) → cut_value (contracted_net g ms group r) u ≡ cut_sum g ms (λ v. u (group v))
 value_cut g ms group r u = arcs_value g ms group u (size g) ∙ weights_cut g ms (λ v. u (group v))
 
 module _ (g h : Graph) (is : IsGraph g) (a b e : ℕ) (wa : Within g.order a) (wb : Within g.order b) (we : Within (size g) e) (ends : has_ends g a b e ≡ true) (beside : IsBeside g e h) (ms : List (List ℕ)) (perfect : All (λ m. IsPerfect g none (mem m)) ms)
@@ -47,11 +47,11 @@ module _ (g h : Graph) (is : IsGraph g) (a b e : ℕ) (wa : Within g.order a) (w
   back_odd u s = pieces_odd g h is a b e wa wb we ends beside (back u) (ap u at_a ∙ s.holds) (ap u at_b ∙ s.lacks) (λ p q wp wq j. ap u (groups.kept p q wp wq j))
 
   -- the value is at least the list's length
-  pub value_bound : (u : Set) → Separates a b u → length ms ≤ value_of (contracted_net g ms group r) u
+  pub value_bound : (u : Set) → Separates a b u → length ms ≤ cut_value (contracted_net g ms group r) u
   value_bound u s = let c = value_cut g ms group r u in let l = met_bound g ms is perfect (back u) (back_odd u s).0 in omega arith
 
   -- and is the length if the vertices are tight
-  tight_value : (u : Set) → Separates a b u → IsTight g (back u) → value_of (contracted_net g ms group r) u ≡ length ms
+  tight_value : (u : Set) → Separates a b u → IsTight g (back u) → cut_value (contracted_net g ms group r) u ≡ length ms
   tight_value u s t = value_cut g ms group r u ∙ tight_met g ms is perfect (back u) (back_odd u s).0 t
 
   own_piece : (v : ℕ) → Within g.order v → joined h (pair_set a b) v v ≡ true
@@ -64,10 +64,10 @@ module _ (g h : Graph) (is : IsGraph g) (a b e : ℕ) (wa : Within g.order a) (w
   piece_of : (x : Set) → SeparatesTightly g a b k x → (u v : ℕ) → joined h (pair_set a b) u v ≡ true → x u ≡ x v
   piece_of x p u v j = tight_piece g h is a b e wa wb we ends beside x p.tight (cut_between g x a b e ends p.has_a p.lacks_b) u v j
 
-  source_all : (x : Set) → SeparatesTightly g a b k x → (v : ℕ) → with_piece h a b a k.0 v ≡ true → x v ≡ true
+  source_all : (x : Set) → SeparatesTightly g a b k x → (v : ℕ) → in_piece h a b a k.0 v ≡ true → x v ≡ true
   source_all x p v t = grind (arith, or_cases (a == v) (joined h (pair_set a b) k.0 v) t, eqb-true a v, piece_of x p k.0 v)
 
-  sink_none : (x : Set) → SeparatesTightly g a b k x → (v : ℕ) → with_piece h a b b k.1 v ≡ true → x v ≡ false
+  sink_none : (x : Set) → SeparatesTightly g a b k x → (v : ℕ) → in_piece h a b b k.1 v ≡ true → x v ≡ false
   sink_none x p v t = grind (arith, or_cases (b == v) (joined h (pair_set a b) k.1 v) t, eqb-true b v, piece_of x p k.1 v)
 
   -- a set that separates the pairs is a union of groups
@@ -85,7 +85,7 @@ module _ (g h : Graph) (is : IsGraph g) (a b e : ℕ) (wa : Within g.order a) (w
       (λ t. true_some g.order (λ i. (group i == group v) && x i) v w (and_from (group v == group v) (x v) (eq-eqb (group v) (group v) refl) t))
 
   -- so it comes from a set of nodes, whose value is the list's length
-  pub parts_nodes : (x : Set) → SeparatesTightly g a b k x → (u : Set) × Separates a b u × ((v : ℕ) → Within g.order v → u (group v) ≡ x v) × (value_of (contracted_net g ms group r) u ≡ length ms)
+  pub parts_nodes : (x : Set) → SeparatesTightly g a b k x → (u : Set) × Separates a b u × ((v : ℕ) → Within g.order v → u (group v) ≡ x v) × (cut_value (contracted_net g ms group r) u ≡ length ms)
   parts_nodes x p =
       let s : Separates a b (nodes_of x) = record { holds = ap (nodes_of x) (sym at_a) ∙ nodes_back x p a wa ∙ p.has_a; lacks = ap (nodes_of x) (sym at_b) ∙ nodes_back x p b wb ∙ p.lacks_b } in
       (nodes_of x, s, nodes_back x p, tight_value (nodes_of x) s (tight-same g x (back (nodes_of x)) is (λ v w. sym (nodes_back x p v w)) p.tight))

@@ -59,9 +59,9 @@ abbrev pub common_shore : Graph → (a b : ℕ) → ℕ × ℕ → Set
 common_shore g a b k v = each_set g.order (λ z. not (separates_tightly g a b k z) || z v)
 
 -- the list with the intersection for the first pair, if there is one
-abbrev pub with_pair : Graph → (a b : ℕ) → List Candidate → Option (ℕ × ℕ) → List Candidate
-with_pair g a b list None = list
-with_pair g a b list (Some k) = with_shore g.order Flow list (common_shore g a b k)
+abbrev pub with_intersection : Graph → (a b : ℕ) → List Candidate → Option (ℕ × ℕ) → List Candidate
+with_intersection g a b list None = list
+with_intersection g a b list (Some k) = with_shore g.order Flow list (common_shore g a b k)
 
 -- the ends of an edge, the lesser first
 abbrev pub lesser_end : Graph → ℕ → ℕ
@@ -78,7 +78,7 @@ first_separated g e = find (is_separated g (lesser_end g e) (greater_end g e)) (
 
 -- the list with what edge e gives, which is nothing if e is in the cut of a candidate
 abbrev pub with_edge_cut : Graph → List Candidate → ℕ → List Candidate
-with_edge_cut g list e = if list_any (cuts g e) list then list else with_pair g (lesser_end g e) (greater_end g e) list (first_separated g e)
+with_edge_cut g list e = if list_any (cuts g e) list then list else with_intersection g (lesser_end g e) (greater_end g e) list (first_separated g e)
 
 -- part 1 and part 2: the cuts of barriers, then those of separations
 unfoldable pub front_candidates : Graph → List Candidate

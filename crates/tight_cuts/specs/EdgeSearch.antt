@@ -80,8 +80,8 @@ pub record Leads (g : Graph) (a b : ℕ) (leaders : List ℕ) (x : ℕ) : Type 0
   pub itself : at_place leaders x ≡ x
 
 -- y leads another piece than x, or is b
-abbrev pub IsBeyond : Graph → (a b : ℕ) → List ℕ → ℕ → ℕ → Type 0
-IsBeyond g a b leaders x y = (Leads g a b leaders y × (x ≢ y)) ⊎ (y ≡ b)
+abbrev pub LeadsBeyond : Graph → (a b : ℕ) → List ℕ → ℕ → ℕ → Type 0
+LeadsBeyond g a b leaders x y = (Leads g a b leaders y × (x ≢ y)) ⊎ (y ≡ b)
 
 -- the vertices of the least cut of the groups' network, if some cut is within the bound
 pub record IsCutOfGroups (g : Graph) (weights leaders : List ℕ) (bound a b x y : ℕ) (answer : Option (List ℕ)) : Type 0 where

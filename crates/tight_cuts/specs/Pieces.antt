@@ -35,19 +35,19 @@ abbrev pub contracted_net : Graph → List (List ℕ) → (ℕ → ℕ) → ℕ 
 contracted_net g ms group k = record { nodes = k; arcs = arcs_of g ms group (size g) }
 
 -- v is c, or in the piece of x: its component in h without a and b
-abbrev pub with_piece : Graph → (a b : ℕ) → ℕ → ℕ → Set
-with_piece h a b c x v = (c == v) || joined h (pair_set a b) x v
+abbrev pub in_piece : Graph → (a b : ℕ) → ℕ → ℕ → Set
+in_piece h a b c x v = (c == v) || joined h (pair_set a b) x v
 
 -- the vertices in groups, each named by a node 1 to r: a with the piece of k.0 is one and named
 -- a, b with the piece of k.1 is one and named b, and each other piece is one
 pub record IsGrouping (g h : Graph) (a b : ℕ) (k : ℕ × ℕ) (r : ℕ) (group : ℕ → ℕ) : Type 0 where
   pub nodes : (v : ℕ) → Within g.order v → Within r (group v)
-  pub source : (v : ℕ) → Within g.order v → with_piece h a b a k.0 v ≡ true → group v ≡ a
-  pub sink : (v : ℕ) → Within g.order v → with_piece h a b b k.1 v ≡ true → group v ≡ b
+  pub source : (v : ℕ) → Within g.order v → in_piece h a b a k.0 v ≡ true → group v ≡ a
+  pub sink : (v : ℕ) → Within g.order v → in_piece h a b b k.1 v ≡ true → group v ≡ b
   pub kept : (u v : ℕ) → Within g.order u → Within g.order v → joined h (pair_set a b) u v ≡ true → group u ≡ group v
   pub apart : (u v : ℕ) → Within g.order u → Within g.order v → group u ≡ group v →
       (joined h (pair_set a b) u v ≡ true)
-      ⊎ (((with_piece h a b a k.0 u ≡ true) × (with_piece h a b a k.0 v ≡ true)) ⊎ ((with_piece h a b b k.1 u ≡ true) × (with_piece h a b b k.1 v ≡ true)))
+      ⊎ (((in_piece h a b a k.0 u ≡ true) × (in_piece h a b a k.0 v ≡ true)) ⊎ ((in_piece h a b b k.1 u ≡ true) × (in_piece h a b b k.1 v ≡ true)))
 
 -- the first number of a list
 abbrev pub head_or : List ℕ → ℕ → ℕ

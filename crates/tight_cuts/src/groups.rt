@@ -3,7 +3,7 @@ ghost use Rattle.std.specs.Prelude.{◌≡◌, ◌≢◌, ℕ, ◌+◌, ◌<◌,
 ghost use Rattle.counting.specs.Common.{Within, total, mem};
 ghost use Rattle.flow_core.specs.Common.{total_capacity, with_arc};
 ghost use Rattle.graph_core.specs.Common.{first_end, second_end, size};
-ghost use Rattle.tight_cuts.specs.Common.{AreGroups, AreLeadersAt, AreMatchings, IsBeyond, IsCommonShore, IsCutOfGroups, Leads, arc_between, arcs_by, at_place, group_net, row_group, group_of};
+ghost use Rattle.tight_cuts.specs.Common.{AreGroups, AreLeadersAt, AreMatchings, LeadsBeyond, IsCommonShore, IsCutOfGroups, Leads, arc_between, arcs_by, at_place, group_net, row_group, group_of};
 
 use crate::matchings::Matchings;
 use crate::pieces::{Weights, weights_of};
@@ -146,7 +146,7 @@ pub(crate) fn common_shore(
     requires matchings { AreMatchings g.now matchings.old }
     requires leaders { AreLeadersAt g.now groups.a groups.b e leaders.now }
     requires x { Leads g.now groups.a groups.b leaders.now groups.x }
-    requires y { IsBeyond g.now groups.a groups.b leaders.now groups.x groups.y }
+    requires y { LeadsBeyond g.now groups.a groups.b leaders.now groups.x groups.y }
     ensures matchings { IfOk result
         (λ _. AreMatchings g.now matchings.new) }
     ensures shore { IfOk result (IsCommonShore g.now groups.a groups.b (groups.x, groups.y)) }

@@ -6,7 +6,7 @@ use Rattle.graph_core.proofs.Common.{Graph, IsGraph, IsCovered, IsPartition, sin
 use Rattle.tree_core.proofs.Common.{blocks-below, few-cuts_at, kept-length, kept-partition, merged-length, merged-partition, leaf_count-cuts, node_count-cuts, IsCutAt, PlaceValue, kept_at, leaves_at, merged_at, Shape, cut, node_count}
 use Rattle.tree_core.specs.declared.tallies.Tally.{Tally}
 use Rattle.tree_check.proofs.CountedLeaves.{leaves-counted, tally-both}
-use Rattle.tree_check.specs.Common.{IsScanned, IsScannedAt, sum_of}
+use Rattle.tree_check.specs.Common.{IsScanResult, IsScannedAt, sum_of}
 use Rattle.tree_check.specs.declared.judgement.Why.{Why as StoredWhy}
 use Rattle.tree_check.specs.declared.judgement.Scanned.{Scanned}
 use Rattle.tree_check.specs.declared.judgement.Scanned.TheVariants as scanned
@@ -68,5 +68,5 @@ module _ (g : Graph) (p : List (List ℕ)) (x : List ℕ) (k m : Shape) (node : 
       passed-both outside found = grind (arith, tally-both g (leaves_at g.order (kept_at g.order p x) k) (leaves_at g.order (merged_at g.order p x) m) inside outside kept.1 found.1)
 
 -- what a scan from the root finds
-pub scanned-root : (g : Graph) (t : Shape) (found : Scanned) → IsCovered g → IsScannedAt g (singles g.order) t 1 found → IsScanned g t found
+pub scanned-root : (g : Graph) (t : Shape) (found : Scanned) → IsCovered g → IsScannedAt g (singles g.order) t 1 found → IsScanResult g t found
 scanned-root g t h covered found = grind arith

@@ -9,7 +9,7 @@ use Rattle.move_laws.proofs.MoveParts.{switch_derives_law}
 use Rattle.tree_core.proofs.Common.{IsCutAt, IsDerivationAt, IsBlockOf, kept_at, merged_at, Shape, cut}
 use Rattle.tree_core.specs.declared.path.Side.{Side}
 use Rattle.tree_core.specs.declared.path.Side.TheVariants.{Kept, Merged}
-use Rattle.tree_check.specs.Common.{IsBlock, IsSwitched}
+use Rattle.tree_check.specs.Common.{IsBlock, IsSwitchOfDerivation}
 
 -- a union of blocks that counts one is a block
 pub block-of_one : (n : ℕ) (p : List (List ℕ)) → AreBlocks n p → (u : Set) → IsUnion n p u → block_count p u ≡ 1 → (s : ℕ) × IsBlockOf n p u s
@@ -26,15 +26,15 @@ block-of_one n p pp u union one =
     )
 
 -- a Switch at its node
-pub switched-here : (g : Graph) (p : List (List ℕ)) (path : List Side) (u v : List ℕ) (t : Shape) (z : List ℕ) (a b : Shape) → IsGraph g → IsPartition g.order p → IsCovered (quotient g p) → length path ≡ 0 → t ≡ cut z a b → IsSwitched g p path u v t →
+pub switched-here : (g : Graph) (p : List (List ℕ)) (path : List Side) (u v : List ℕ) (t : Shape) (z : List ℕ) (a b : Shape) → IsGraph g → IsPartition g.order p → IsCovered (quotient g p) → length path ≡ 0 → t ≡ cut z a b → IsSwitchOfDerivation g p path u v t →
     IsBlock g.order p u × IsBlock g.order p v × IsCutAt g p z → IsDerivationAt g p t
 switched-here g p (side ∷ path) u v t z a b is pp covered here is_t made found = absurd (omega arith)
 switched-here g p [] u v t z a b is pp covered here is_t made found = grind (arith, switch_derives_law, covered_down)
 
 -- a Switch below a cut
 module _ (g : Graph) (p : List (List ℕ)) (path : List Side) (u v x : List ℕ) (k m : Shape) where
-  pub switched-kept : IsSwitched g p (Kept ∷ path) u v (cut x k m) → IsSwitched g (kept_at g.order p x) path u v k
+  pub switched-kept : IsSwitchOfDerivation g p (Kept ∷ path) u v (cut x k m) → IsSwitchOfDerivation g (kept_at g.order p x) path u v k
   switched-kept made = grind arith
 
-  pub switched-merged : IsSwitched g p (Merged ∷ path) u v (cut x k m) → IsSwitched g (merged_at g.order p x) path u v m
+  pub switched-merged : IsSwitchOfDerivation g p (Merged ∷ path) u v (cut x k m) → IsSwitchOfDerivation g (merged_at g.order p x) path u v m
   switched-merged made = grind arith

@@ -3,6 +3,6 @@ pub use Rattle.tree_check.specs.Refusals.{Why, not_blocks, even, trivial, not_ti
 pub use Rattle.tree_check.specs.Judgements.{why_of, IsJudgement}
 pub use Rattle.tree_check.specs.Leaves.{IsLeafOfKind}
 pub use Rattle.tree_check.specs.KnownPlaces.{IsLeafOf}
-pub use Rattle.tree_check.specs.Scans.{IsScannedAt, IsScanned, HasFewKinds, sum_of}
-pub use Rattle.tree_check.specs.SoundMoves.{IsMadeBy, IsSwitched, IsBlock}
+pub use Rattle.tree_check.specs.Scans.{IsScannedAt, IsScanResult, HasFewKinds, sum_of}
+pub use Rattle.tree_check.specs.SoundMoves.{IsMadeBy, IsSwitchOfDerivation, IsBlock}
 pub use Rattle.tree_check.specs.Replays.{IsStuckAt, IsRefusedMoveAt, IsReplay, IsMoved}

@@ -17,9 +17,9 @@ IsScannedAt g p t node (scanned.Passed tally) = IsDerivationAt g p t × IsTally 
 IsScannedAt g p t node (scanned.Refused number why) = (j : ℕ) × (number + 1 ≡ node + j) × IsRefusedAt g p t j (why_of why)
 
 -- the tree is a derivation of the graph and has so many leaves, or this is its first refusal
-abbrev pub IsScanned : Graph → Shape → Scanned → Type 0
-IsScanned g t (scanned.Passed tally) = IsDerivation g t × IsTally g (leaves g.order t) tally
-IsScanned g t (scanned.Refused node why) = IsRefused g t node (why_of why)
+abbrev pub IsScanResult : Graph → Shape → Scanned → Type 0
+IsScanResult g t (scanned.Passed tally) = IsDerivation g t × IsTally g (leaves g.order t) tally
+IsScanResult g t (scanned.Refused node why) = IsRefused g t node (why_of why)
 
 -- no more leaves of a kind than leaves
 pub record HasFewKinds (tally : Tally) : Type 0 where

@@ -11,8 +11,8 @@ abbrev pub IsMadeBy : Graph → PlainMove → Shape → Type 0
 IsMadeBy g m t = (s : Shape) × IsDerivation g s × (move_result g.order s m ≡ Some t)
 
 -- the Switch of u and v at the end of the path makes t of some derivation at p
-abbrev pub IsSwitched : Graph → List (List ℕ) → List Side → (u v : List ℕ) → Shape → Type 0
-IsSwitched g p path u v t = (s : Shape) × IsDerivationAt g p s × (switch_result g.order path u v s ≡ Some t)
+abbrev pub IsSwitchOfDerivation : Graph → List (List ℕ) → List Side → (u v : List ℕ) → Shape → Type 0
+IsSwitchOfDerivation g p path u v t = (s : Shape) × IsDerivationAt g p s × (switch_result g.order path u v s ≡ Some t)
 
 -- the rising list is one of the blocks of p
 abbrev pub IsBlock : ℕ → List (List ℕ) → List ℕ → Type 0

@@ -1,7 +1,7 @@
 //! The scan of a tree in preorder.
 ghost use Rattle.std.specs.Prelude.{◌≡◌, ◌≤◌, ◌<◌, ◌+◌, ◌^◌, length, IfOk};
 ghost use Rattle.tree_core.specs.Common.{Fits, cut, shape_of};
-ghost use Rattle.tree_check.specs.Common.{IsJudgement, HasFewKinds, IsScanned, IsScannedAt, sum_of};
+ghost use Rattle.tree_check.specs.Common.{IsJudgement, HasFewKinds, IsScanResult, IsScannedAt, sum_of};
 
 use crate::judgement::{Judgement, Scanned};
 use crate::known_places::KnownPlaces;
@@ -42,7 +42,7 @@ pub fn check_covered(alloc: Global, c: &Covered, tree: &Tree) -> Result<Judgemen
 /// by what its judgement finds of its quotient.
 pub fn scan_covered(alloc: Global, c: &Covered, tree: &Tree) -> Result<Scanned, Memory>
     requires { Fits c.now.order (shape_of tree.now) }
-    ensures { IfOk result (IsScanned c.now (shape_of tree.now)) }
+    ensures { IfOk result (IsScanResult c.now (shape_of tree.now)) }
 {
     let mut known = KnownPlaces::none(alloc, c);
     scan_known(alloc, &mut known, tree)
@@ -52,7 +52,7 @@ pub fn scan_covered(alloc: Global, c: &Covered, tree: &Tree) -> Result<Scanned, 
 /// again: that it is a brick or a brace, and which. What is found is known from now on.
 pub fn scan_known(alloc: Global, known: &mut KnownPlaces, tree: &Tree) -> Result<Scanned, Memory>
     requires { Fits known.old.order (shape_of tree.now) }
-    ensures scanned { IfOk result (IsScanned known.old (shape_of tree.now)) }
+    ensures scanned { IfOk result (IsScanResult known.old (shape_of tree.now)) }
     ensures same { known.new ≡ known.old }
 {
     let c = known.covered();

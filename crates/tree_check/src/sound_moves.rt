@@ -1,12 +1,12 @@
 //! Moves that take a derivation to a derivation, found at the node where they change the tree.
 //!
 //! Each Rotate does. A Switch of two blocks does if its new shore is nontrivial and tight where
-//! it stands: all other shores follow from it (`laws::switch_derives` of `move_laws`). So one cut
+//! it stands: all other shores follow from it (`laws::switch_derives_law` of `move_laws`). So one cut
 //! is judged, in place of the tree.
 ghost use Rattle.std.specs.Prelude.{◌≡◌, ◌-◌, IfOk, IsTrue, All};
 ghost use Rattle.counting.specs.Common.{Within};
 ghost use Rattle.tree_core.specs.Common.{IsCutAt, IsDerivation, IsDerivationAt, move_of, Fits, shape_of};
-ghost use Rattle.tree_check.specs.Common.{IsBlock, IsMadeBy, IsSwitched};
+ghost use Rattle.tree_check.specs.Common.{IsBlock, IsMadeBy, IsSwitchOfDerivation};
 
 use crate::rules::cut_fault;
 use contraction::Partition;
@@ -41,7 +41,7 @@ fn is_sound_switch(
     v: VSet,
 ) -> Result<bool, Memory>
     requires fits { Fits p.now.graph.order (shape_of made.now) }
-    requires switched { IsSwitched p.now.graph p.now.blocks path.now u v (shape_of made.now) }
+    requires switched { IsSwitchOfDerivation p.now.graph p.now.blocks path.now u v (shape_of made.now) }
     ensures { IfOk result
         (λ sound. IsTrue sound → IsDerivationAt p.now.graph p.now.blocks (shape_of made.now)) }
 {

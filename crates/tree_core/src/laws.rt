@@ -6,7 +6,7 @@ ghost use Rattle.tree_core.specs.declared.path.Side.{Side};
 
 /// A derivation of a graph fits the graph's order, and each of its shores is a nonempty union of
 /// blocks where it stands. So its leaves may be asked for.
-pub fn derivation_stands()
+pub fn derivation_stands_law()
     ensures fits { (g : Graph) (t : Shape) → IsDerivation g t → Fits g.order t }
     ensures stands { (g : Graph) (t : Shape) → IsDerivation g t →
         StandsAt g.order (singles g.order) t }
@@ -14,7 +14,7 @@ pub fn derivation_stands()
 
 /// Each leaf of a derivation is a partition at which no nontrivial shore is tight, and its
 /// quotient is matching covered.
-pub fn derivation_leaves()
+pub fn derivation_leaves_law()
     ensures partitions { (g : Graph) (t : Shape) → IsDerivation g t →
         All (IsPartition g.order) (leaves g.order t) }
     ensures uncut { (g : Graph) (t : Shape) → IsDerivation g t →
@@ -26,7 +26,7 @@ pub fn derivation_leaves()
 /// Each shore of a derivation is a canonical nontrivial tight shore of the graph itself, and not
 /// only at the partition where it stands (Lovász 1987). At the partition into single vertices a
 /// cut of a derivation names nothing else.
-pub fn derivation_shores()
+pub fn derivation_shores_law()
     ensures root { (g : Graph) (x : List ℕ) → IsGraph g →
         (IsCutAt g (singles g.order) x ↔ IsTightShore g x) }
     ensures tight { (g : Graph) (t : Shape) → IsGraph g → IsDerivation g t →
@@ -34,7 +34,7 @@ pub fn derivation_shores()
 {}
 
 /// A tree with c cuts has c + 1 leaves and 2 c + 1 nodes, and its list of leaves has that length.
-pub fn tree_sizes()
+pub fn tree_sizes_law()
     ensures leaves { (t : Shape) → leaf_count t ≡ cut_count t + 1 }
     ensures nodes { (t : Shape) → node_count t ≡ 2 * cut_count t + 1 }
     ensures list { (n : ℕ) (t : Shape) → length (leaves n t) ≡ leaf_count t }
@@ -43,7 +43,7 @@ pub fn tree_sizes()
 /// What a tree has, by the paths from its root: the leaves are the partitions of the leaves that
 /// some path leads to, the shores those of the cuts that some path leads to, and the depth is the
 /// greatest number of nodes on a path to a leaf.
-pub fn tree_paths()
+pub fn tree_paths_law()
     ensures leaf { (n : ℕ) (t : Shape) (q : List (List ℕ)) →
         (Any (λ (p : List (List ℕ)). p ≡ q) (leaves n t) ↔
         ((path : List Side) × LeadsTo n path (singles n) t q leaf)) }
@@ -59,7 +59,7 @@ pub fn tree_paths()
 
 /// A derivation of a graph with at least four vertices has at most half as many leaves as
 /// vertices, less one: n vertices and c leaves keep 2 c + 2 at most n (Lovász 1987).
-pub fn derivation_size()
+pub fn derivation_size_law()
     ensures { (g : Graph) (t : Shape) → IsGraph g → IsDerivation g t → 4 ≤ g.order →
         2 * leaf_count t + 2 ≤ g.order }
 {}

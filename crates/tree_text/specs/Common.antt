@@ -4,4 +4,4 @@ pub use Rattle.tree_text.specs.TreeFormat.{most_nodes, TreeSoFar, behind_first, 
 pub use Rattle.tree_text.specs.PickFormat.{most_picks, PicksSoFar, pick_header, pick_line, pick_end, pick_format}
 pub use Rattle.tree_text.specs.Writing.{header_words, cut_words, node_words, HasVertices, ShoresRise, IsWritable}
 unfoldable pub use Rattle.tree_text.specs.Writing.{tree_text}
-pub use Rattle.tree_text.specs.SoFar.{place_of, progress_of, tree_so_far, picks_so_far}
+pub use Rattle.tree_text.specs.SoFar.{next_place, progress_of, tree_so_far, picks_so_far}

@@ -11,14 +11,14 @@ use Rattle.tree_text.specs.declared.nodes_read.NodesRead.{NodesRead}
 use Rattle.tree_text.specs.declared.pick_format.PicksRead.{PicksRead}
 
 -- the place of the next node
-abbrev pub place_of : Above → Place
-place_of Root = root
-place_of (InKept' x at above) = in_kept x (place_of above)
-place_of (InMerged' x kept at above) = in_merged x (shape_of kept.value) (place_of above)
+abbrev pub next_place : Above → Place
+next_place Root = root
+next_place (InKept' x at above) = in_kept x (next_place above)
+next_place (InMerged' x kept at above) = in_merged x (shape_of kept.value) (next_place above)
 
 -- what the nodes read so far give
 abbrev pub progress_of : Progress → Reading
-progress_of (Wanted above) = wanted (place_of above)
+progress_of (Wanted above) = wanted (next_place above)
 progress_of (Whole tree) = whole (shape_of tree)
 
 -- the same with their number

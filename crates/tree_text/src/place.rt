@@ -1,7 +1,7 @@
 //! The place of the next node of a text.
 ghost use Rattle.std.specs.Prelude.{◌≡◌, IfOk};
 ghost use Rattle.tree_core.specs.Common.{shape_of};
-ghost use Rattle.tree_text.specs.Common.{put, place_of, progress_of};
+ghost use Rattle.tree_text.specs.Common.{put, next_place, progress_of};
 
 use std::alloc::{AllocError as Memory, Global};
 use tree_core::Tree;
@@ -35,7 +35,7 @@ pub enum Progress {
 /// The tree after a subtree is put at the place of the next node.
 pub fn put(alloc: Global, above: Above, tree: Tree) -> Result<Progress, Memory>
     ensures { IfOk result
-        (λ progress. progress_of progress ≡ put (place_of above) (shape_of tree)) }
+        (λ progress. progress_of progress ≡ put (next_place above) (shape_of tree)) }
 {
     match above {
         Above::Root => Ok(Progress::Whole(tree)),

@@ -5,7 +5,7 @@ ghost use Rattle.line_text.specs.declared.faults.FaultKind.{FaultKind};
 ghost use Rattle.tree_core.specs.Common.{Shape, shape_of};
 ghost use Rattle.tree_text.specs.TreeFormat.{TreeSoFar, tree_header, node_line, line_behind, tree_end, tree_format, behind_first, is_cut_line, is_node_line, most_nodes, shore_told, shore_tests, with_node};
 ghost use Rattle.tree_text.specs.Writing.{IsWritable};
-ghost use Rattle.tree_text.specs.SoFar.{place_of, progress_of, tree_so_far};
+ghost use Rattle.tree_text.specs.SoFar.{next_place, progress_of, tree_so_far};
 
 use crate::nodes_read::{NodesRead, TreeFormat};
 use crate::place::{Above, Progress, put};
@@ -86,7 +86,7 @@ fn read_shore(alloc: Global, n: u32, words: &[&[u8]]) -> Result<VSet, Refusal<Fa
 // The tree with one more node below these cuts: a leaf, or a cut with this shore.
 fn with_node(alloc: Global, above: Above, is_leaf: bool, shore: VSet) -> Result<Progress, Memory>
     ensures { IfOk result
-        (λ progress. progress_of progress ≡ with_node (place_of above) is_leaf shore) }
+        (λ progress. progress_of progress ≡ with_node (next_place above) is_leaf shore) }
 {
     if is_leaf {
         return put(alloc, above, Tree::Leaf);
@@ -105,7 +105,7 @@ fn read_node(
 ) -> Result<NodesRead, Refusal<FaultKind>>
     requires order { n ≤ MOST_VERTICES }
     requires few { nodes ≤ most_nodes }
-    ensures { Gives tree_so_far result (node_line n nodes (place_of above) (texts_of words.now)) }
+    ensures { Gives tree_so_far result (node_line n nodes (next_place above) (texts_of words.now)) }
 {
     if nodes >= MOST_NODES {
         return Err(Refusal::Fault(FaultKind::Limit));

@@ -7,7 +7,7 @@ use Rattle.two_ears.proofs.AddedEdges.{degree-added, degree-with_pairs, second_e
 use Rattle.two_ears.proofs.JoinedClasses.{keeps-itself, joined_more}
 use Rattle.two_ears.proofs.TwoEars.{ends_of_one, two_ears}
 use Rattle.two_ears.specs.AddedEdges.{with_pairs}
-use Rattle.two_ears.specs.VertexPairs.{AreDisjoint, pairs_at, vertices_of}
+use Rattle.two_ears.specs.VertexPairs.{AreDisjoint, pairs_at, set_of_pair}
 
 ends-with_pairs : (g : Graph) (ps : List (ℕ × ℕ)) (e : ℕ) → Within (size g) e → (first_end (with_ends g (with_pairs g.ends ps)) e ≡ first_end g e) × (second_end (with_ends g (with_pairs g.ends ps)) e ≡ second_end g e)
 ends-with_pairs g [] e w = (refl, refl)
@@ -126,7 +126,7 @@ module _ (g : Graph) (is : IsGraph g) (cov : IsCovered g) (p0 : ℕ × ℕ) (res
   disjoint : AreDisjoint g.order qs
   disjoint = record { within = λ p i. within p (of_qs p i); once = λ v w. let a = split v w in omega arith }
 
-  pair : (p : ℕ × ℕ) × (q : ℕ × ℕ) × IsIn p qs × IsIn q qs × ((k : Set) × IsPerfect g (union (vertices_of p) (vertices_of q)) k)
+  pair : (p : ℕ × ℕ) × (q : ℕ × ℕ) × IsIn p qs × IsIn q qs × ((k : Set) × IsPerfect g (union (set_of_pair p) (set_of_pair q)) k)
   pair = two_ears g is cov qs some_chosen disjoint (
     m,
     record {
@@ -144,7 +144,7 @@ module _ (g : Graph) (is : IsGraph g) (cov : IsCovered g) (p0 : ℕ × ℕ) (res
   pub edge_form_here : ((p : ℕ × ℕ) × IsIn p ps × IsCovered (with_ends g (with_pairs g.ends (p ∷ [])))) ⊎ ((p : ℕ × ℕ) × (q : ℕ × ℕ) × IsIn p ps × IsIn q ps × IsCovered (with_ends g (with_pairs g.ends (p ∷ q ∷ []))))
   edge_form_here = go pair.0 pair.1 pair.2 pair.3 pair.4.0 pair.4.1
     where
-      go : (p q : ℕ × ℕ) → IsIn p qs → IsIn q qs → (k : Set) → IsPerfect g (union (vertices_of p) (vertices_of q)) k → ((p : ℕ × ℕ) × IsIn p ps × IsCovered (with_ends g (with_pairs g.ends (p ∷ [])))) ⊎ ((p : ℕ × ℕ) × (q : ℕ × ℕ) × IsIn p ps × IsIn q ps × IsCovered (with_ends g (with_pairs g.ends (p ∷ q ∷ []))))
+      go : (p q : ℕ × ℕ) → IsIn p qs → IsIn q qs → (k : Set) → IsPerfect g (union (set_of_pair p) (set_of_pair q)) k → ((p : ℕ × ℕ) × IsIn p ps × IsCovered (with_ends g (with_pairs g.ends (p ∷ [])))) ⊎ ((p : ℕ × ℕ) × (q : ℕ × ℕ) × IsIn p ps × IsIn q ps × IsCovered (with_ends g (with_pairs g.ends (p ∷ q ∷ []))))
       go p q i j k h = elim (same_pair p q) [
         | inl e ↦ inl (p, of_qs p i, covered-with_pairs g is cov (p ∷ []) (λ r x. elim x [ inl y ↦ subst (λ z. Within g.order z.0 × Within g.order z.1) (sym y) (within p (of_qs p i)) | inr y ↦ absurd y ]) k (λ v w. single v w e))
         | inr d ↦ inr (
@@ -160,21 +160,21 @@ module _ (g : Graph) (is : IsGraph g) (cov : IsCovered g) (p0 : ℕ × ℕ) (res
       ]
         where
           single : (v : ℕ) → Within g.order v → p ≡ q → degree g k v + ((bit (p.0 == v) + bit (p.1 == v)) + 0) ≡ 1
-          single v w e = elim (cases_Bool (union (vertices_of p) (vertices_of q) v)) [
+          single v w e = elim (cases_Bool (union (set_of_pair p) (set_of_pair q) v)) [
             | inl t ↦
                 let a = h.away v w t in
                 let l = ends_of_one qs p v i in
                 let s = split v w in
                 let u = some_or (p.0 == v) (p.1 == v) (grind arith) in omega arith
-            | inr t ↦ let a = h.once v w t in let u = one_or_none (p.0 == v) (p.1 == v) (or_parts (vertices_of p v) (vertices_of q v) t).0 in omega arith
+            | inr t ↦ let a = h.once v w t in let u = one_or_none (p.0 == v) (p.1 == v) (or_parts (set_of_pair p v) (set_of_pair q v) t).0 in omega arith
           ]
 
           double : (v : ℕ) → Within g.order v → p ≢ q → degree g k v + ((bit (p.0 == v) + bit (p.1 == v)) + ((bit (q.0 == v) + bit (q.1 == v)) + 0)) ≡ 1
           double v w d = elim (same_or_apart qs p q v i j) [
             | inl e ↦ absurd (d e)
-            | inr l ↦ let s = split v w in elim (cases_Bool (union (vertices_of p) (vertices_of q) v)) [
+            | inr l ↦ let s = split v w in elim (cases_Bool (union (set_of_pair p) (set_of_pair q) v)) [
               | inl t ↦ grind arith
-              | inr t ↦ let a = h.once v w t in let r = or_parts (vertices_of p v) (vertices_of q v) t in let u = one_or_none (p.0 == v) (p.1 == v) r.0 in let x = one_or_none (q.0 == v) (q.1 == v) r.1 in omega arith
+              | inr t ↦ let a = h.once v w t in let r = or_parts (set_of_pair p v) (set_of_pair q v) t in let u = one_or_none (p.0 == v) (p.1 == v) r.0 in let x = one_or_none (q.0 == v) (q.1 == v) r.1 in omega arith
             ]
           ]
 

@@ -8,7 +8,7 @@ use Rattle.graph_core.proofs.Common.{IsSide, is_least, IsCovered, Graph, IsGraph
 use Rattle.two_ears.proofs.BarrierComponents.{count_none, none_inside, one_leaves, some_perfect}
 use Rattle.two_ears.proofs.ComponentCuts.{count_in}
 use Rattle.two_ears.proofs.JoinedClasses.{adjacent_joined, keeps-itself, joined_equivalence}
-use Rattle.two_ears.specs.VertexPairs.{vertices_of}
+use Rattle.two_ears.specs.VertexPairs.{set_of_pair}
 
 -- an edge that leaves k from a vertex of a
 abbrev pub leaves_from : Graph → Set → Set → ℕ → Bool
@@ -130,8 +130,8 @@ module _ (g : Graph) (is : IsGraph g) (cov : IsCovered g) (a : Set) (sides : IsS
         out_w x y c p q = grind arith
 
   -- two vertices on opposite sides serve
-  pub opposite : (x z : ℕ) → Within g.order x → Within g.order z → a x ≡ true → a z ≡ false → HasPerfect g (vertices_of (x, z))
-  opposite x z wx wz ax az = elim (perfect_or_not g (vertices_of (x, z))) [
+  pub opposite : (x z : ℕ) → Within g.order x → Within g.order z → a x ≡ true → a z ≡ false → HasPerfect g (set_of_pair (x, z))
+  opposite x z wx wz ax az = elim (perfect_or_not g (set_of_pair (x, z))) [
     | inl m ↦ m
     | inr no_match ↦
         let m = some_perfect g is cov in

@@ -11,7 +11,7 @@ use Rattle.two_ears.proofs.ComponentCuts.{odd_need}
 use Rattle.two_ears.proofs.JoinedClasses.{adjacent_joined, class_count-components, keeps-itself, joined_equivalence, joined_more, joined_steps}
 use Rattle.two_ears.proofs.ClassCounts.{coarser, strictly}
 use Rattle.two_ears.specs.AddedEdges.{KeepsEdges, with_pairs}
-use Rattle.two_ears.specs.VertexPairs.{vertices_of}
+use Rattle.two_ears.specs.VertexPairs.{set_of_pair}
 
 -- a part b of s that holds u and v, leaves as many components as it has vertices, and keeps x and
 -- y together
@@ -24,9 +24,9 @@ pub record PairBarrier (g : Graph) (s : Set) (u v : ℕ) (P : Set → Type 0) : 
   pub keeps : P b
 
 module _ (g : Graph) (is : IsGraph g) (cov : IsCovered g) (s : Set) (bar : IsBarrier g s) (u v : ℕ) (wu : Within g.order u) (wv : Within g.order v) (d : u ≢ v) (su : s u ≡ true) (sv : s v ≡ true)
-    (class : (w : ℕ) → Within g.order w → Equivalent g u w → s w ≡ true) (alone : (m : Set) → IsPerfect g (vertices_of (u, v)) m → ⊥) where
+    (class : (w : ℕ) → Within g.order w → Equivalent g u w → s w ≡ true) (alone : (m : Set) → IsPerfect g (set_of_pair (u, v)) m → ⊥) where
   abbrev pub Fits : ℕ × ℕ → Type 0
-  Fits p = (Within g.order p.0 × Within g.order p.1) × (s p.0 ≡ false) × (s p.1 ≡ false) × ((m : Set) → IsPerfect g (union (vertices_of (u, v)) (vertices_of p)) m → ⊥)
+  Fits p = (Within g.order p.0 × Within g.order p.1) × (s p.0 ≡ false) × (s p.1 ≡ false) × ((m : Set) → IsPerfect g (union (set_of_pair (u, v)) (set_of_pair p)) m → ⊥)
 
   module _ (p : ℕ × ℕ) (fits : Fits p) where
     abbrev ys : List (ℕ × ℕ)
@@ -46,14 +46,14 @@ module _ (g : Graph) (is : IsGraph g) (cov : IsCovered g) (s : Set) (bar : IsBar
             let c : bit (m (suc (size g)) && not (nat_lt (size g) (suc (size g)))) ≡ 0 = ap bit (but_not (m (suc (size g))) (nat_lt (size g) (suc (size g))) (lt-ltb (size g) (suc (size g)) (omega arith))) in
             let i = ap (λ k. k * (bit (p.0 == w) + bit (p.1 == w))) c in omega arith
 
-    in_s : (w : ℕ) → vertices_of (u, v) w ≡ true → s w ≡ true
+    in_s : (w : ℕ) → set_of_pair (u, v) w ≡ true → s w ≡ true
     in_s w t = elim (or_cases (u == w) (v == w) t) [ inl x ↦ ap s (sym (eqb-true u w x)) ∙ su | inr x ↦ ap s (sym (eqb-true v w x)) ∙ sv ]
 
-    out_s : (w : ℕ) → vertices_of p w ≡ true → s w ≡ false
+    out_s : (w : ℕ) → set_of_pair p w ≡ true → s w ≡ false
     out_s w t = elim (or_cases (p.0 == w) (p.1 == w) t) [ inl x ↦ ap s (sym (eqb-true p.0 w x)) ∙ fits.1 | inr x ↦ ap s (sym (eqb-true p.1 w x)) ∙ fits.2 ]
 
     -- u and v are not served in g with the edge p
-    never : (m : Set) → IsPerfect (with_ends g ys) (vertices_of (u, v)) m → ⊥
+    never : (m : Set) → IsPerfect (with_ends g ys) (set_of_pair (u, v)) m → ⊥
     never m q = go (m (suc (size g))) refl
       where
         some_end : (a b : Bool) → (a || b) ≡ true → 1 ≤ bit a + bit b
@@ -69,17 +69,17 @@ module _ (g : Graph) (is : IsGraph g) (cov : IsCovered g) (s : Set) (bar : IsBar
             same : (w : ℕ) → degree (with_ends g ys) m w ≡ degree g m w + (bit (p.0 == w) + bit (p.1 == w))
             same w = let a = degree-added g g.ends p m w in let c = ap bit e in let i = ap (λ k. k * (bit (p.0 == w) + bit (p.1 == w))) c in omega arith
 
-            once : (w : ℕ) → Within g.order w → union (vertices_of (u, v)) (vertices_of p) w ≡ false → degree g m w ≡ 1
+            once : (w : ℕ) → Within g.order w → union (set_of_pair (u, v)) (set_of_pair p) w ≡ false → degree g m w ≡ 1
             once w ww o =
-                let a = or_parts (vertices_of (u, v) w) (vertices_of p w) o in
+                let a = or_parts (set_of_pair (u, v) w) (set_of_pair p w) o in
                 let b = or_parts (p.0 == w) (p.1 == w) a.1 in
                 let c = same w in let i = q.once w ww a.0 in let j = ap bit b.0 in let k = ap bit b.1 in omega arith
 
-            away : (w : ℕ) → Within g.order w → union (vertices_of (u, v)) (vertices_of p) w ≡ true → degree g m w ≡ 0
-            away w ww o = elim (or_cases (vertices_of (u, v) w) (vertices_of p w) o) [
+            away : (w : ℕ) → Within g.order w → union (set_of_pair (u, v)) (set_of_pair p) w ≡ true → degree g m w ≡ 0
+            away w ww o = elim (or_cases (set_of_pair (u, v) w) (set_of_pair p w) o) [
               | inl x ↦ let c = same w in let i = q.away w ww x in omega arith
               | inr x ↦
-                  let f = false_from_ne_true (vertices_of (u, v) w) (λ t. both_ways (s w) (out_s w x) (in_s w t)) in
+                  let f = false_from_ne_true (set_of_pair (u, v) w) (λ t. both_ways (s w) (out_s w x) (in_s w t)) in
                   let c = same w in let i = q.once w ww f in let j = some_end (p.0 == w) (p.1 == w) x in omega arith
             ]
 
@@ -91,13 +91,13 @@ module _ (g : Graph) (is : IsGraph g) (cov : IsCovered g) (s : Set) (bar : IsBar
     in_class w ww t = class w ww (elim (cases_eq u w) [
       | inl e ↦ inl e
       | inr e ↦ inr (λ k.
-          let a = odd_need g ys (vertices_of (u, w)) k.0 bar_y.0 is hy k.1 (λ x wx i. in_bar x i) in
-          let b = at_le_total g.order (λ x. bit (vertices_of (u, w) x)) u wu in
-          let c : bit (vertices_of (u, w) u) ≡ 1 = ap bit (or_left (u == u) (w == u) (eq-eqb u u refl)) in
+          let a = odd_need g ys (set_of_pair (u, w)) k.0 bar_y.0 is hy k.1 (λ x wx i. in_bar x i) in
+          let b = at_le_total g.order (λ x. bit (set_of_pair (u, w) x)) u wu in
+          let c : bit (set_of_pair (u, w) u) ≡ 1 = ap bit (or_left (u == u) (w == u) (eq-eqb u u refl)) in
           let y = bar_y.1 in absurd (omega arith))
     ])
       where
-        in_bar : (x : ℕ) → vertices_of (u, w) x ≡ true → bar_y.0 x ≡ true
+        in_bar : (x : ℕ) → set_of_pair (u, w) x ≡ true → bar_y.0 x ≡ true
         in_bar x i = elim (or_cases (u == x) (w == x) i) [ inl j ↦ ap bar_y.0 (sym (eqb-true u x j)) ∙ bar_y.2 | inr j ↦ ap bar_y.0 (sym (eqb-true w x j)) ∙ t ]
 
     components_y : component_count (with_ends g ys) bar_y.0 ≡ count g.order bar_y.0

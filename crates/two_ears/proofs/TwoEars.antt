@@ -11,7 +11,7 @@ use Rattle.two_ears.proofs.ComponentCuts.{odd_need}
 use Rattle.two_ears.proofs.JoinedClasses.{keeps-itself}
 use Rattle.two_ears.proofs.PairBarriers.{PairBarrier, pairs_barrier, same_components}
 use Rattle.two_ears.specs.AddedEdges.{KeepsEdges, with_pairs}
-use Rattle.two_ears.specs.VertexPairs.{AreDisjoint, in_pairs, pairs_at, vertices_of}
+use Rattle.two_ears.specs.VertexPairs.{AreDisjoint, in_pairs, pairs_at, set_of_pair}
 
 -- one of two for each pair of a list
 pub scan_pairs : (P Q : ℕ × ℕ → Type 0) → ((p : ℕ × ℕ) → P p ⊎ Q p) → (ps : List (ℕ × ℕ)) → ((p : ℕ × ℕ) × IsIn p ps × P p) ⊎ ((p : ℕ × ℕ) → IsIn p ps → Q p)
@@ -21,9 +21,9 @@ scan_pairs P Q h (q ∷ ps) = elim (h q) [
   | inr b ↦ grind (arith, scan_pairs P Q h ps)
 ]
 
-pub two_or_none : (g : Graph) (ps : List (ℕ × ℕ)) → ((p : ℕ × ℕ) × (q : ℕ × ℕ) × IsIn p ps × IsIn q ps × HasPerfect g (union (vertices_of p) (vertices_of q))) ⊎ ((p : ℕ × ℕ) → IsIn p ps → (q : ℕ × ℕ) → IsIn q ps → (m : Set) → IsPerfect g (union (vertices_of p) (vertices_of q)) m → ⊥)
-two_or_none g ps = elim (scan_pairs (λ p. (q : ℕ × ℕ) × IsIn q ps × HasPerfect g (union (vertices_of p) (vertices_of q))) (λ p. (q : ℕ × ℕ) → IsIn q ps → (m : Set) → IsPerfect g (union (vertices_of p) (vertices_of q)) m → ⊥)
-    (λ p. scan_pairs (λ q. HasPerfect g (union (vertices_of p) (vertices_of q))) (λ q. (m : Set) → IsPerfect g (union (vertices_of p) (vertices_of q)) m → ⊥) (λ q. perfect_or_not g (union (vertices_of p) (vertices_of q))) ps) ps) [
+pub two_or_none : (g : Graph) (ps : List (ℕ × ℕ)) → ((p : ℕ × ℕ) × (q : ℕ × ℕ) × IsIn p ps × IsIn q ps × HasPerfect g (union (set_of_pair p) (set_of_pair q))) ⊎ ((p : ℕ × ℕ) → IsIn p ps → (q : ℕ × ℕ) → IsIn q ps → (m : Set) → IsPerfect g (union (set_of_pair p) (set_of_pair q)) m → ⊥)
+two_or_none g ps = elim (scan_pairs (λ p. (q : ℕ × ℕ) × IsIn q ps × HasPerfect g (union (set_of_pair p) (set_of_pair q))) (λ p. (q : ℕ × ℕ) → IsIn q ps → (m : Set) → IsPerfect g (union (set_of_pair p) (set_of_pair q)) m → ⊥)
+    (λ p. scan_pairs (λ q. HasPerfect g (union (set_of_pair p) (set_of_pair q))) (λ q. (m : Set) → IsPerfect g (union (set_of_pair p) (set_of_pair q)) m → ⊥) (λ q. perfect_or_not g (union (set_of_pair p) (set_of_pair q))) ps) ps) [
       | inl r ↦ inl (r.0, r.2.0, r.1, r.2.1, r.2.2)
       | inr f ↦ inr f
     ]
@@ -79,7 +79,7 @@ record Joint (g : Graph) (s : Set) (xs : List (ℕ × ℕ)) (es : List (ℕ × �
   large : count g.order b + 1 ≤ component_count (with_ends g xs) b + length es
 
 module _ (g : Graph) (is : IsGraph g) (cov : IsCovered g) (p0 : ℕ × ℕ) (rest : List (ℕ × ℕ)) (dis : AreDisjoint g.order (p0 ∷ rest)) (m : Set) (perfect : IsPerfect g (in_pairs (p0 ∷ rest)) m)
-    (no_two : (p : ℕ × ℕ) → IsIn p (p0 ∷ rest) → (q : ℕ × ℕ) → IsIn q (p0 ∷ rest) → (k : Set) → IsPerfect g (union (vertices_of p) (vertices_of q)) k → ⊥) where
+    (no_two : (p : ℕ × ℕ) → IsIn p (p0 ∷ rest) → (q : ℕ × ℕ) → IsIn q (p0 ∷ rest) → (k : Set) → IsPerfect g (union (set_of_pair p) (set_of_pair q)) k → ⊥) where
   abbrev ps : List (ℕ × ℕ)
   ps = p0 ∷ rest
 
@@ -102,8 +102,8 @@ module _ (g : Graph) (is : IsGraph g) (cov : IsCovered g) (p0 : ℕ × ℕ) (res
   unfolding s
   of_s w ww e = (class_list g p0.0).holds w ww e
 
-  alone : (p : ℕ × ℕ) → IsIn p ps → (k : Set) → IsPerfect g (vertices_of p) k → ⊥
-  alone p i k q = no_two p i p i k (perfect_congr g (vertices_of p) (union (vertices_of p) (vertices_of p)) k (λ v w. grind arith) q)
+  alone : (p : ℕ × ℕ) → IsIn p ps → (k : Set) → IsPerfect g (set_of_pair p) k → ⊥
+  alone p i k q = no_two p i p i k (perfect_congr g (set_of_pair p) (union (set_of_pair p) (set_of_pair p)) k (λ v w. grind arith) q)
 
   differ : (p : ℕ × ℕ) → IsIn p ps → p.0 ≢ p.1
   differ p i e =
@@ -241,7 +241,7 @@ module _ (g : Graph) (is : IsGraph g) (cov : IsCovered g) (p0 : ℕ × ℕ) (res
 
 -- the two-ear theorem: of pairs that serve together two serve, or one
 pub two_ears : (g : Graph) → IsGraph g → IsCovered g → (ps : List (ℕ × ℕ)) → ps ≢ [] → AreDisjoint g.order ps → HasPerfect g (in_pairs ps) →
-    (p : ℕ × ℕ) × (q : ℕ × ℕ) × IsIn p ps × IsIn q ps × HasPerfect g (union (vertices_of p) (vertices_of q))
+    (p : ℕ × ℕ) × (q : ℕ × ℕ) × IsIn p ps × IsIn q ps × HasPerfect g (union (set_of_pair p) (set_of_pair q))
 two_ears g is cov [] some dis m = absurd (some refl)
 two_ears g is cov (p ∷ ps) some dis m = elim (two_or_none g (p ∷ ps)) [
   | inl r ↦ r

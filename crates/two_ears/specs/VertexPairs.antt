@@ -4,8 +4,8 @@ use Rattle.std.specs.Prelude.{ℕ, ◌+◌, ◌≤◌, List, [], ◌∷◌, ◌=
 use Rattle.counting.specs.Common.{bit, Within, IsIn, Set, pair_set}
 
 -- the two vertices of a pair
-abbrev pub vertices_of : ℕ × ℕ → Set
-vertices_of p = pair_set p.0 p.1
+abbrev pub set_of_pair : ℕ × ℕ → Set
+set_of_pair p = pair_set p.0 p.1
 
 -- how often v is a vertex of a pair of the list
 abbrev pub pairs_at : List (ℕ × ℕ) → ℕ → ℕ

@@ -3,7 +3,7 @@ ghost use Rattle.std.specs.Prelude.{◌≡◌, ◌≢◌, ◌⊎◌, ℕ, true, 
 ghost use Rattle.counting.specs.Common.{Within, Set, pair_set, union, IsIn};
 ghost use Rattle.graph_core.specs.Common.{IsCovered, Graph, IsGraph, with_ends, HasPerfect, IsSide};
 ghost use Rattle.two_ears.specs.AddedEdges.{with_pairs};
-ghost use Rattle.two_ears.specs.VertexPairs.{AreDisjoint, in_pairs, vertices_of};
+ghost use Rattle.two_ears.specs.VertexPairs.{AreDisjoint, in_pairs, set_of_pair};
 
 /// Let some disjoint pairs of vertices of a matching covered graph G be such that deleting all of
 /// them leaves a graph with a perfect matching. Then so does deleting two of the pairs, or one: p
@@ -12,7 +12,7 @@ pub fn two_ears_law()
     ensures { (g : Graph) → IsGraph g → IsCovered g → (ps : List (ℕ × ℕ)) → ps ≢ [] →
         AreDisjoint g.order ps → HasPerfect g (in_pairs ps)
         → (p : ℕ × ℕ) × (q : ℕ × ℕ) × IsIn p ps × IsIn q ps ×
-        HasPerfect g (union (vertices_of p) (vertices_of q)) }
+        HasPerfect g (union (set_of_pair p) (set_of_pair q)) }
 {}
 
 /// If a matching covered graph is still matching covered after adding some edges, it is so after

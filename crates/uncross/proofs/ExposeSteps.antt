@@ -9,7 +9,7 @@ use Rattle.move_laws.proofs.NestedShores.{leaf_not}
 use Rattle.uncross.proofs.Planned.{first_is_cut, plan_done, second_is_cut}
 use Rattle.move_laws.proofs.Rising.{rising-derivation_at}
 use Rattle.move_laws.proofs.Scripts.{script_end}
-use Rattle.uncross.specs.Common.{CutIf, IsExposed, IsPlan, PlainPlan, first_shore, plan_result, second_shore}
+use Rattle.uncross.specs.Common.{CutIf, IsExposed, IsPlan, PlainPlan, first_kept_shore, plan_result, second_shore}
 use Rattle.move_laws.specs.Common.{PlainTurned}
 
 -- a partition of the graph whose quotient is covered
@@ -47,7 +47,7 @@ module _ (g : Graph) (n : ℕ) (p : List (List ℕ)) (x y : List ℕ) (a b whole
   is_plan : IsPlan g.order p x y plan
   is_plan = subst (λ n. IsPlan n p x y plan) e planned
 
-  pub asks_kept : (q : List (List ℕ)) (t : Shape) (first : Option (List ℕ)) → q ≡ kept_at g.order p x → t ≡ a → first ≡ first_shore y plan → IsDerivationAt g q t × CutIf g q first
+  pub asks_kept : (q : List (List ℕ)) (t : Shape) (first : Option (List ℕ)) → q ≡ kept_at g.order p x → t ≡ a → first ≡ first_kept_shore y plan → IsDerivationAt g q t × CutIf g q first
   asks_kept q t first eq et ef = (
     subst (λ q. IsDerivationAt g q t) (sym eq) (subst (IsDerivationAt g (kept_at g.order p x)) (sym et) d.1),
     subst (λ q. CutIf g q first) (sym eq) (subst (CutIf g (kept_at g.order p x)) (sym ef) (first_is_cut g p st x y bx by d.0.canonical cy.canonical plan is_plan)),
@@ -60,10 +60,10 @@ module _ (g : Graph) (n : ℕ) (p : List (List ℕ)) (x y : List ℕ) (a b whole
   )
 
   -- what came back from the two trees
-  module _ (q r : List (List ℕ)) (s t ta tb : Shape) (first second : Option (List ℕ)) (mi mo : Option (List PlainMove)) (eq : q ≡ kept_at g.order p x) (er : r ≡ merged_at g.order p x) (es : s ≡ a) (et : t ≡ b) (ef : first ≡ first_shore y plan) (ec : second ≡ second_shore y plan)
+  module _ (q r : List (List ℕ)) (s t ta tb : Shape) (first second : Option (List ℕ)) (mi mo : Option (List PlainMove)) (eq : q ≡ kept_at g.order p x) (er : r ≡ merged_at g.order p x) (es : s ≡ a) (et : t ≡ b) (ef : first ≡ first_kept_shore y plan) (ec : second ≡ second_shore y plan)
       (ea : IsExposed g q s first ta mi) (eb : IsExposed g r t second tb mo) where
-    at_a : IsExposed g (kept_at g.order p x) a (first_shore y plan) ta mi
-    at_a = subst (λ q. IsExposed g q a (first_shore y plan) ta mi) eq (subst (λ s. IsExposed g q s (first_shore y plan) ta mi) es (subst (λ o. IsExposed g q s o ta mi) ef ea))
+    at_a : IsExposed g (kept_at g.order p x) a (first_kept_shore y plan) ta mi
+    at_a = subst (λ q. IsExposed g q a (first_kept_shore y plan) ta mi) eq (subst (λ s. IsExposed g q s (first_kept_shore y plan) ta mi) es (subst (λ o. IsExposed g q s o ta mi) ef ea))
 
     at_b : IsExposed g (merged_at g.order p x) b (second_shore y plan) tb mo
     at_b = subst (λ q. IsExposed g q b (second_shore y plan) tb mo) er (subst (λ s. IsExposed g r s (second_shore y plan) tb mo) et (subst (λ o. IsExposed g r t o tb mo) ec eb))
@@ -73,7 +73,7 @@ module _ (g : Graph) (n : ℕ) (p : List (List ℕ)) (x y : List ℕ) (a b whole
         let sk = stage_merged g p st (complement_of g.order x) (big_rest g p st x bx) in
         subst (λ m. Fits m (cut x ta tb)) (sym em) (
           cut-below g p x d.0,
-          (stands-derivation_at g (kept_at g.order p x) ta sk.list (exposed_derives g (kept_at g.order p x) a ta (first_shore y plan) mi d.1 at_a)).0,
+          (stands-derivation_at g (kept_at g.order p x) ta sk.list (exposed_derives g (kept_at g.order p x) a ta (first_kept_shore y plan) mi d.1 at_a)).0,
           (stands-derivation_at g (merged_at g.order p x) tb (stage_merged g p st x bx).list (exposed_derives g (merged_at g.order p x) b tb (second_shore y plan) mo d.2 at_b)).0,
         )
 

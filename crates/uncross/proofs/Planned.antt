@@ -16,7 +16,7 @@ use Rattle.move_laws.proofs.NestedShores.{Cross, raised, stays_big}
 use Rattle.move_laws.proofs.Scripts.{length_below, length_join, script_end, script_join, script_kept, script_merged, script_rotate}
 use Rattle.move_laws.proofs.Rising.{bounds}
 use Rattle.move_laws.specs.Common.{outer_of, outer_shore, partner, PlainTurned, over_inner, AreRising}
-use Rattle.uncross.specs.Common.{CutIf, IsExposed, IsPlan, PlainPlan, crossing, first_shore, here, if_big, in_kept, in_merged, plan_result, second_shore}
+use Rattle.uncross.specs.Common.{CutIf, IsExposed, IsPlan, PlainPlan, crossing, first_kept_shore, here, if_big, in_kept, in_merged, plan_result, second_shore}
 
 -- a root shore and another, at a stage
 module _ (g : Graph) (p : List (List ℕ)) (st : Stage g p) (x y : List ℕ) (bx : Big g p x) (by : Big g p y) (nx : mem x g.order ≡ false) (ny : mem y g.order ≡ false) where
@@ -88,7 +88,7 @@ module _ (g : Graph) (p : List (List ℕ)) (st : Stage g p) (x y : List ℕ) (bx
   merged_stage = stage_merged g p st x bx
 
   -- what is exposed first in `kept` is a cut there
-  pub first_is_cut : (plan : PlainPlan) → IsPlan g.order p x y plan → CutIf g (kept_at g.order p x) (first_shore y plan)
+  pub first_is_cut : (plan : PlainPlan) → IsPlan g.order p x y plan → CutIf g (kept_at g.order p x) (first_kept_shore y plan)
   first_is_cut here is = tt
   first_is_cut in_kept is = cut_in_kept g p st x y bx by nx ny is.0 is.1
   first_is_cut in_merged is = tt
@@ -153,7 +153,7 @@ module _ (g : Graph) (p : List (List ℕ)) (st : Stage g p) (x y : List ℕ) (bx
           ),
         )
 
-    pub plan_done : (plan : PlainPlan) → IsPlan g.order p x y plan → (ta tb : Shape) (mi mo : Option (List PlainMove)) → IsExposed g (kept_at g.order p x) a (first_shore y plan) ta mi → IsExposed g (merged_at g.order p x) b (second_shore y plan) tb mo →
+    pub plan_done : (plan : PlainPlan) → IsPlan g.order p x y plan → (ta tb : Shape) (mi mo : Option (List PlainMove)) → IsExposed g (kept_at g.order p x) a (first_kept_shore y plan) ta mi → IsExposed g (merged_at g.order p x) b (second_shore y plan) tb mo →
         (s : PlainTurned) × (plan_result g.order x plan ta tb mi mo ≡ Some s) × IsExposed g p (cut x a b) (Some y) s.tree (Some s.moves)
     plan_done here is ta tb None None ea eb = at_here is ta tb ea eb
     plan_done here is ta tb None (Some ms) ea eb = absurd eb

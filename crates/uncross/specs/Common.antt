@@ -1,5 +1,5 @@
 -- The definitions of this crate, passed on from one place to the crates above. Declares nothing.
-pub use Rattle.uncross.specs.Plans.{PlainPlan, here, in_kept, in_merged, crossing, if_big, IsPlan, first_shore, second_shore, plan_result, CutIf, IsExposed}
+pub use Rattle.uncross.specs.Plans.{PlainPlan, here, in_kept, in_merged, crossing, if_big, IsPlan, first_kept_shore, second_shore, plan_result, CutIf, IsExposed}
 pub use Rattle.uncross.specs.TurnedView.{turned_of, IsMade}
 pub use Rattle.uncross.specs.PlanView.{plan_of}
 pub use Rattle.uncross.specs.MapView.{map_of, maps_of, moved_image, image_name, kept_images, merged_images}

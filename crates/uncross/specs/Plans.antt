@@ -29,11 +29,11 @@ IsPlan n p x y (crossing u v inner outer) =
     (is_subset y x ≡ false) × (is_subset x y ≡ false) × (is_apart x y ≡ false) × (u ≡ meet_list n x (partner n p x y)) × (v ≡ outer_of n x (partner n p x y)) × (inner ≡ if_big p u u) × (outer ≡ if_big p v (outer_shore n v))
 
 -- the shore that is exposed in `kept` first
-abbrev pub first_shore : List ℕ → PlainPlan → Option (List ℕ)
-first_shore y here = None
-first_shore y in_kept = Some y
-first_shore y in_merged = None
-first_shore y (crossing u v inner outer) = inner
+abbrev pub first_kept_shore : List ℕ → PlainPlan → Option (List ℕ)
+first_kept_shore y here = None
+first_kept_shore y in_kept = Some y
+first_kept_shore y in_merged = None
+first_kept_shore y (crossing u v inner outer) = inner
 
 -- the shore that is exposed in `merged` first
 abbrev pub second_shore : List ℕ → PlainPlan → Option (List ℕ)

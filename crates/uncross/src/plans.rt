@@ -4,7 +4,7 @@ ghost use Rattle.counting.specs.Common.{is_odd, IsRisingIn, mem, meet};
 ghost use Rattle.graph_core.specs.Common.{complement_of, block_count};
 ghost use Rattle.tree_core.specs.Common.{meet_list};
 ghost use Rattle.move_laws.specs.Common.{outer_of, outer_shore, partner};
-ghost use Rattle.uncross.specs.Common.{plan_of, IsPlan, first_shore, if_big, second_shore};
+ghost use Rattle.uncross.specs.Common.{plan_of, IsPlan, first_kept_shore, if_big, second_shore};
 
 use contraction::Partition;
 use tree_core::are_apart;
@@ -134,7 +134,7 @@ pub fn plan_at(p: &Partition, x: VSet, y: VSet) -> Plan
 impl Plan {
     /// What is exposed in `kept` first.
     pub fn first(&self, y: VSet) -> Option<VSet>
-        ensures { result ≡ first_shore y (plan_of self.now) }
+        ensures { result ≡ first_kept_shore y (plan_of self.now) }
     {
         match self {
             Plan::InKept => Some(y),

@@ -9,7 +9,7 @@ use graph_core::MultiGraph;
 use plain_graph::CYCLE_OF_8;
 use std::alloc::{AllocError as Memory, Global};
 use std::test::Fail;
-use tree_core::laws::derivation_stands;
+use tree_core::laws::derivation_stands_law;
 use tree_core::{Moves, Tree, apply, copy, fits};
 use uncross::{compare, expose};
 use vset_core::VSet;

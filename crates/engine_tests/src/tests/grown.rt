@@ -15,7 +15,7 @@ use quick_kinds::quick_brick;
 use std::alloc::{AllocError as Memory, Global};
 use std::test::Fail;
 use tight_cuts::find_any;
-use tree_core::laws::derivation_stands;
+use tree_core::laws::derivation_stands_law;
 use tree_core::{Tree, leaves};
 
 // How many graphs were asked about, and how many of them are bricks.
@@ -38,7 +38,7 @@ fn asked(alloc: Global, g: &MultiGraph) -> Result<Asked, Fail> {
 fn asked_of_leaves(alloc: Global, g: &MultiGraph, tree: &Tree) -> Result<Asked, Fail>
     requires { IsDerivation g.now (shape_of tree.now) }
 {
-    derivation_stands();
+    derivation_stands_law();
     let partitions = leaves(alloc, tree, g.order())?;
     let mut graphs = 0u32;
     let mut bricks = 0u32;

@@ -4,7 +4,7 @@ use Rattle.counting.proofs.Common.{append-nil, length-map}
 use Rattle.std.proofs.lemmas.Option.{slice_get-map}
 use Rattle.contraction.specs.Partition.{PartitionValue}
 use Rattle.uncross.specs.Common.{map_of, maps_of}
-use Rattle.bench_outcomes.specs.Common.{lines_of}
+use Rattle.bench_outcomes.specs.Common.{map_lines_of}
 use Rattle.bench_reports.proofs.PairLines.{lines-more, lines-none}
 use Rattle.bench_reports.proofs.comparing.lines_of.Goals as goal
 
@@ -19,7 +19,7 @@ lines-preserved c =
     record {
       left = omega arith;
       counted = omega arith;
-      lines = lines-more c.lines.i ps c.get.result.now.blocks (map_of c.in-Some.map) (maps_of (into_iter_items c.lines.rest)) (maps_of (into_iter_items c.next.new.self)) (lines_of 0 ps (maps_of c.args.maps)) c.lines.lines c.push.new.self c.in_ok-line_of.field-0
+      lines = lines-more c.lines.i ps c.get.result.now.blocks (map_of c.in-Some.map) (maps_of (into_iter_items c.lines.rest)) (maps_of (into_iter_items c.next.new.self)) (map_lines_of 0 ps (maps_of c.args.maps)) c.lines.lines c.push.new.self c.in_ok-line_of.field-0
           at_p c.lines.invariant.lines (ap maps_of c.in-Some.ensures.cases.0) c.in_ok-line_of.ensures c.in_ok-push.ensures.ok;
     }
 

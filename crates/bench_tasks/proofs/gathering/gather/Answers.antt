@@ -2,7 +2,7 @@
 -- these follow the reads.
 use Rattle.std.proofs.Common.{◌≡◌, [], ◌∷◌, rules, arith}
 use Rattle.graph_text.specs.Common.{named_graph}
-use Rattle.bench_tasks.specs.Common.{place_name, asked, OnEars, OnGraph, OnMoves, OnPicks, OnSimpleGraph, OnTree, OnTrees, ears_given, graph6_file, moves_given, on_ears, on_moves, on_picks, on_tree, on_trees, picks_given, tree_given, trees_given, given_ears, given_moves, given_picks, given_tree, given_trees, graph_in, task_of}
+use Rattle.bench_tasks.specs.Common.{place_name, asked, OnEars, OnGraph, OnMoves, OnPicks, OnSimpleGraph, OnTree, OnTrees, ears_given, graph6_file, moves_given, on_ears, on_moves, on_picks, on_tree, on_trees, picks_given, tree_given, trees_given, given_ears, given_moves, given_picks, given_tree, given_trees, simple_graph_in, task_of}
 use Rattle.bench_tasks.specs.Tasks as task
 use Rattle.bench_tasks.proofs.AnswersMade.{IsMade, answered-mapped, gathered-as}
 use Rattle.bench_tasks.proofs.gathering.gather.Goals as goal
@@ -17,10 +17,10 @@ returns-in-OnGraph g c =
 pub returns-in-OnSimpleGraph : goal.returns-in-OnSimpleGraph
 returns-in-OnSimpleGraph g c =
     let arm = c.in-OnSimpleGraph in
-    let made : IsMade graph_in task_of (task.OnSimpleGraph arm.verb) c.load_first-in-OnSimpleGraph.result c.map-in-OnSimpleGraph.result = search rules in
+    let made : IsMade simple_graph_in task_of (task.OnSimpleGraph arm.verb) c.load_first-in-OnSimpleGraph.result c.map-in-OnSimpleGraph.result = search rules in
     let is : OnSimpleGraph arm.verb arm.graph.now ≡ asked c.args.command = search rules in
     let gathered = gathered-as g.S.Shelf.reads (OnSimpleGraph arm.verb arm.graph.now) (asked c.args.command) c.map-in-OnSimpleGraph.result _ _ is
-    (answered-mapped g.S.Shelf.reads (arm.graph.now ∷ []) graph_in task_of (λ files. graph6_file files (place_name 1)) (task.OnSimpleGraph arm.verb) c.load_first-in-OnSimpleGraph.result c.map-in-OnSimpleGraph.result _ _ made c.load_first-in-OnSimpleGraph.ensures.answered) in
+    (answered-mapped g.S.Shelf.reads (arm.graph.now ∷ []) simple_graph_in task_of (λ files. graph6_file files (place_name 1)) (task.OnSimpleGraph arm.verb) c.load_first-in-OnSimpleGraph.result c.map-in-OnSimpleGraph.result _ _ made c.load_first-in-OnSimpleGraph.ensures.answered) in
     record { loads = search rules; reads = gathered.1; answered = gathered.0; asked = search rules }
 
 pub returns-in-OnTree : goal.returns-in-OnTree

@@ -1,6 +1,6 @@
 use Rattle.std.proofs.Common.{List, ℕ, ◌≡◌, Option, None, take, refl, subst, ap, inl, inr, Err, IsErrOf, Result, arith}
 use Rattle.outside.specs.Common.{IsCutOff, IsWritten, appended}
-use Rattle.bench_tasks.specs.Common.{asked, IsRead, IsReadFault}
+use Rattle.bench_tasks.specs.Common.{asked, HasNoMissing, IsReadFault}
 use Rattle.bench_tasks.specs.declared.stop.Stop.{Stop}
 use Rattle.bench_tasks.specs.declared.tasks.Task.TheVariants as code
 use Rattle.bench_outcomes.specs.Common.{IsReported}
@@ -16,7 +16,7 @@ use Rattle.bench_top.proofs.performing.perform.Goals as goal
 not-reported : (status : Status) → IsReported status → (status ≡ Usage → ⊥) × (status ≡ ReadFault → ⊥) × (status ≡ WriteFault → ⊥)
 not-reported status reported = grind arith
 
-read-not-fault : (result : Result code.the_data Stop) → IsRead result → IsReadFault result → ⊥
+read-not-fault : (result : Result code.the_data Stop) → HasNoMissing result → IsReadFault result → ⊥
 read-not-fault result read fault = grind arith
 
 err-is : {X : Type 0} {status other : Status} → IsErrOf {T = X} (Err status) other → status ≡ other

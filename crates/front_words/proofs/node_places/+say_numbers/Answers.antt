@@ -1,11 +1,11 @@
 use Rattle.std.proofs.Common.{◌≡◌, ℕ, List, [], ◌∷◌, ◌++◌, append-nil, codes, refl, rules, decimal}
 use Rattle.outside.specs.declared.sink.SinkFailed.{SinkFailed}
-use Rattle.front_words.specs.NodePlaces.{numbers_text}
+use Rattle.front_words.specs.NodePlaces.{spaced_numbers}
 use Rattle.front_words.proofs.Sayings.{says_passed, says_step}
 use Rattle.front_words.proofs.node_places.+say_numbers.Goals as goal
 
 -- the first number, as the pieces of a message have it, and the others
-numbers-first : (numbers others : List ℕ) (number : ℕ) → numbers ≡ number ∷ others → numbers_text numbers ≡ (codes " " ++ (decimal number ++ [])) ++ numbers_text others
+numbers-first : (numbers others : List ℕ) (number : ℕ) → numbers ≡ number ∷ others → spaced_numbers numbers ≡ (codes " " ++ (decimal number ++ [])) ++ spaced_numbers others
 numbers-first numbers others number is = rw (is, append-nil (decimal number)) refl
 
 pub returns : goal.returns

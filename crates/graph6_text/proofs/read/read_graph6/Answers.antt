@@ -2,7 +2,7 @@ use Rattle.std.proofs.Common.{subst, take, drop, List, ℕ, arith}
 use Rattle.std.proofs.lemmas.Result.{IfErr-weaker}
 use Rattle.counting.proofs.Common.{err_from_is_err_and}
 use Rattle.graph6_text.proofs.Canonical.{simple-graph_of}
-use Rattle.graph6_text.specs.Common.{IsFirstFault, faults_of}
+use Rattle.graph6_text.specs.Common.{IsFirstFaultOfRows, faults_of}
 use Rattle.graph6_text.proofs.Passing.{outcome-fault, outcome-graph, is_first-front, is_first-behind, first_fault-append}
 use Rattle.graph6_text.proofs.read.read_graph6.Goals as goal
 
@@ -22,6 +22,6 @@ returns-clause-simple c = grind (arith, simple-graph_of c.body-body.result.now)
 pub returns-clause-fault : goal.returns-clause-fault
 returns-clause-fault c =
     let body = c.body-body.result.now in
-    IfErr-weaker c.to_graph.result _ _ (λ e h. outcome-fault c.args.bytes.now e (subst (λ (xs : List ℕ). IsFirstFault (faults_of xs) e) c.body-body.ensures
+    IfErr-weaker c.to_graph.result _ _ (λ e h. outcome-fault c.args.bytes.now e (subst (λ (xs : List ℕ). IsFirstFaultOfRows (faults_of xs) e) c.body-body.ensures
     (is_first-behind (take 9 (faults_of body)) (drop 9 (faults_of body)) e c.in_ok-check_body.ensures h)))
     c.to_graph.ensures.fault

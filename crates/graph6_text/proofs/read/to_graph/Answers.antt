@@ -1,7 +1,7 @@
 use Rattle.std.proofs.Common.{◌≡◌, ◌≤◌, ◌++◌, ◌∙◌, ap, arith, subst, None, true, drop, length}
 use Rattle.counting.proofs.Common.{list_all}
 use Rattle.std.proofs.lemmas.Result.{IfErr-weaker, on_ok_weaker}
-use Rattle.graph6_text.specs.Common.{bits_of, chosen, column_pairs, data_len, data_of, IsFirstFault, faults_of, is_digit, limit_row, first_fault}
+use Rattle.graph6_text.specs.Common.{bits_of, chosen, column_pairs, data_len, data_of, IsFirstFaultOfRows, faults_of, is_digit, limit_row, first_fault}
 use Rattle.graph6_text.proofs.Columns.{length-column_pairs}
 use Rattle.graph6_text.proofs.Passing.{formed, digits-data, padding_row, last_rows, graph-from_bits, is_first-behind, first_fault-append}
 use Rattle.graph6_text.proofs.read.to_graph.Goals as goal
@@ -41,6 +41,6 @@ returns-clause-passed c =
 pub returns-clause-fault : goal.returns-clause-fault
 returns-clause-fault c =
     let at = (goal.at.returns-clause-fault c).After-pair_count in
-    IfErr-weaker c.with_edges.result _ _ (λ e h. subst (λ rows. IsFirstFault rows e) (rows at)
+    IfErr-weaker c.with_edges.result _ _ (λ e h. subst (λ rows. IsFirstFaultOfRows rows e) (rows at)
     (is_first-behind (padding_row c.pair_count.result (bits_of c.data-data.result.now)) (limit_row (chosen (column_pairs c.order-n.result) (bits_of c.data-data.result.now))) e c.in_ok-check_filling.ensures h))
     c.with_edges.ensures.limit

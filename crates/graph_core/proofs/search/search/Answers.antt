@@ -1,7 +1,7 @@
 use Rattle.std.proofs.Common.{◌<◌, not, ap, sym, ◌∙◌, subst, arith}
 use Rattle.std.proofs.lemmas.Bool.{not_from_false}
 use Rattle.counting.proofs.Common.{and_from, and_parts, not-true, set-narrower, count, mem}
-use Rattle.graph_core.specs.Common.{IsStage, parent_at, depth_at}
+use Rattle.graph_core.specs.Common.{IsComponentStage, parent_at, depth_at}
 use Rattle.graph_core.specs.declared.tree.TreeNode.{TreeNode}
 use Rattle.graph_core.proofs.FoundVertices.{grown_less}
 use Rattle.graph_core.proofs.FoundComponents.{stage_start, stage_step, stage_end}
@@ -9,7 +9,7 @@ use Rattle.graph_core.proofs.search.search.Goals as goal
 
 pub searching-init : goal.searching-init
 searching-init c = λ g is are.
-    subst (λ parts. IsStage g (mem c.args.removed) (mem c.minus-left.result) parts (parent_at c.args.nodes.now) (depth_at c.args.nodes.now)) (sym c.in_ok-parts.ensures.items)
+    subst (λ parts. IsComponentStage g (mem c.args.removed) (mem c.minus-left.result) parts (parent_at c.args.nodes.now) (depth_at c.args.nodes.now)) (sym c.in_ok-parts.ensures.items)
     (stage_start g (mem c.args.removed) is (mem c.minus-left.result) (parent_at c.args.nodes.now) (depth_at c.args.nodes.now)
     (λ v l. let p = and_parts (mem c.full.result v) (not (mem c.args.removed v)) (sym (c.minus-left.ensures v) ∙ l) in
     let w = (c.full.ensures.members v).0 p.0 in let e = are.one_each in ((omega arith, omega arith), not-true (mem c.args.removed v) p.1))
@@ -29,7 +29,7 @@ pub searching-preserved : goal.searching-preserved
 searching-preserved c = λ g is are.
     let old = c.searching.invariant g is are in
     let grown = c.grow-rest.ensures.grown g is are in
-    subst (λ parts. IsStage g (mem c.args.removed) (mem c.grow-rest.result) parts (parent_at c.grow-rest.new.nodes) (depth_at c.grow-rest.new.nodes)) (sym c.in_ok-push.ensures.items)
+    subst (λ parts. IsComponentStage g (mem c.args.removed) (mem c.grow-rest.result) parts (parent_at c.grow-rest.new.nodes) (depth_at c.grow-rest.new.nodes)) (sym c.in_ok-push.ensures.items)
     (stage_step g (mem c.args.removed) is (mem c.searching.left) (mem c.grow-rest.result) c.searching.parts.items c.minus-part.result
     (parent_at c.searching.nodes) (parent_at c.grow-rest.new.nodes) (depth_at c.searching.nodes) (depth_at c.grow-rest.new.nodes) c.in-Some.least old
     c.in-Some.ensures.some.member c.in-Some.ensures.some.before grown.smaller grown.taken grown.tree

@@ -1,6 +1,6 @@
 use Rattle.std.proofs.Common.{◌≡◌, ◌≤◌, ℕ, List, ap, [], length, take, rules, arith, Some, None}
 use Rattle.std.proofs.lemmas.List.{length-take-le}
-use Rattle.outside.specs.Common.{prepended, IsEnd, most_bytes}
+use Rattle.outside.specs.Common.{prepended, IsAtEnd, most_bytes}
 use Rattle.mcg6_encoder.specs.Reads.{most_piece}
 use Rattle.mcg6_encoder.proofs.ReadsSoFar.{left_past, left_whole, read_none, read_past, read_some, read_torn, read_whole, so_far_none, so_far_piece}
 use Rattle.mcg6_encoder.proofs.reading.read_file.Goals as goal
@@ -52,7 +52,7 @@ returns-in-Ok-eq0-clause-whole g c =
 pub returns-in-Ok-eq0-clause-left : goal.returns-in-Ok-eq0-clause-left
 returns-in-Ok-eq0-clause-left g c =
     let taken : g.S.Source.left c.reading.source ≡ prepended [] (g.S.Source.left c.read.new.self) = search rules in
-    let end : IsEnd (g.S.Source.left c.read.new.self) = let some = c.reading.invariant.some in c.in-Ok-eq0.ensures.end (search rules) (omega arith) in
+    let end : IsAtEnd (g.S.Source.left c.read.new.self) = let some = c.reading.invariant.some in c.in-Ok-eq0.ensures.end (search rules) (omega arith) in
     left_whole g.S.Source.left g.S.Source.reads c.reading.held.items c.args.source.now c.reading.source c.read.new.self
     c.reading.invariant.so_far taken end
 

@@ -1,5 +1,5 @@
 use Rattle.std.proofs.Common.{◌≡◌, [], inr, refl, take, rules, arith, Some, None}
-use Rattle.outside.specs.Common.{prepended, IsEnd}
+use Rattle.outside.specs.Common.{prepended, IsAtEnd}
 use Rattle.mcg6_reader.specs.declared.ending.Ending.TheVariants.{ReadFault, Memory}
 use Rattle.mcg6_reader.proofs.Readings.{so_far_none, so_far_piece, so_far_stops, so_far_end, so_far_begun, so_far_torn}
 use Rattle.mcg6_reader.proofs.Streaming.{stream_stops, stream_end, stream_begun}
@@ -25,7 +25,7 @@ returns-in-Err-clause-torn g c is = so_far_torn c.reading.invariant.so_far c.rea
 pub returns-in-Ok-eq0-clause-tells : goal.returns-in-Ok-eq0-clause-tells
 returns-in-Ok-eq0-clause-tells g c =
     let taken : g.S.Source.left c.reading.source ≡ prepended [] (g.S.Source.left c.read.new.self) = search rules in
-    let end : IsEnd (g.S.Source.left c.read.new.self) = search rules in
+    let end : IsAtEnd (g.S.Source.left c.read.new.self) = search rules in
     so_far_end c.reading.invariant.so_far (g.T.LineTeller.bad c.args.teller.now) (g.T.LineTeller.lacks c.args.teller.now)
     c.take_end.result c.read.new.self c.take_end.new.sink c.take_end.new.skipped.items taken end c.take_end.ensures.gives c.take_end.ensures.reported
 

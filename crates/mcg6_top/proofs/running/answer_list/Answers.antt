@@ -1,7 +1,7 @@
 use Rattle.std.proofs.Common.{subst, List}
 use Rattle.mcg6_reader.specs.Common.{Added, Reports, TellsList}
 use Rattle.mcg6_reader.specs.declared.ending.BadLine.{BadLine}
-use Rattle.mcg6_top.specs.Common.{SkipsUpTo, TellsOrSkips, StopsAt, SkipsLine, lacks_of}
+use Rattle.mcg6_top.specs.Common.{SkipsUpTo, TellsOrSkips, ListStopsAt, SkipsLine, lacks_of}
 use Rattle.mcg6_top.proofs.Skipping.{added_whole, stop_none}
 use Rattle.mcg6_top.proofs.running.answer_list.Goals as goal
 
@@ -11,7 +11,7 @@ returns g c =
     let query = c.args.lister.now.query in
     let at_bad = c.args.lister.now.at_bad in
     let tells =
-    subst (λ (f : List BadLine). TellsList (TellsOrSkips query at_bad) (StopsAt query at_bad) (lacks_of query) (Reports (SkipsLine query at_bad)) c.tell_all-ending.result
+    subst (λ (f : List BadLine). TellsList (TellsOrSkips query at_bad) (ListStopsAt query at_bad) (lacks_of query) (Reports (SkipsLine query at_bad)) c.tell_all-ending.result
     (g.S.Source.left c.args.source.now) (g.K.Sink.written c.args.sink.now) (g.K.Sink.written c.tell_all-ending.new.sink) f c.tell_all-ending.new.skipped.items)
     c.new-skipped.ensures.items told.tells in
     record {

@@ -1,6 +1,6 @@
 use Rattle.std.proofs.Common.{List, map, string_bytes, subst, sym, arith, ℕ, ◌+◌, ◌++◌, ◌≡◌, add-one}
 use Rattle.contraction.specs.Partition.{PartitionValue}
-use Rattle.report_text.specs.Common.{leaf_lines}
+use Rattle.report_text.specs.Common.{numbered_leaf_lines}
 use Rattle.tree_core.specs.declared.tallies.LeafKind.{LeafKind}
 use Rattle.report_text.proofs.LeafLines.{lines-more}
 use Rattle.tree_core.proofs.Common.{kinds-all, kinds-next}
@@ -15,7 +15,7 @@ loop-i-preserved c =
     record {
       so_many = kinds.0;
       right = kinds.1;
-      lines = subst (λ (ks : List LeafKind). string_bytes c.push_quotient.new.text ≡ string_bytes c.args.text.now ++ leaf_lines c.args.g.now ps ks (i + 1)) (sym more)
+      lines = subst (λ (ks : List LeafKind). string_bytes c.push_quotient.new.text ≡ string_bytes c.args.text.now ++ numbered_leaf_lines c.args.g.now ps ks (i + 1)) (sym more)
           (rw add-one (lines-more c.args.g.now c.args.leaves.now c.loop-i.kinds.items i c.get.result.now c.in_ok-kind.kind (string_bytes c.args.text.now) (string_bytes c.loop-i.text) (string_bytes c.push_quotient.new.text) c.get.ensures c.loop-i.invariant.so_many c.loop-i.invariant.lines
           (rw add-one at c.in_ok-kind.ensures.lines)));
     }

@@ -1,7 +1,7 @@
 use Rattle.std.proofs.Common.{◌≡◌, ◌++◌, ℕ, length, map, string_bytes}
 use Rattle.counting.proofs.Common.{Within}
 use Rattle.tree_core.proofs.Common.{leaf_at, IsLeafKind, kind_at}
-use Rattle.report_text.specs.Common.{leaf_lines}
+use Rattle.report_text.specs.Common.{numbered_leaf_lines}
 use Rattle.report_text.proofs.derivations.push_partitions.Given as goal
 
 -- the lines of the first leaves are written, and their kinds are known
@@ -9,5 +9,5 @@ abbrev pub invariant-loop-i : goal.invariant-loop-i
 invariant-loop-i l = record {
   so_many : length l.kinds.items ≡ l.i;
   right : (k : ℕ) → Within l.i k → IsLeafKind l.g (leaf_at (map (λ p. p.blocks) l.leaves) k) (kind_at l.kinds.items k);
-  lines : string_bytes l.text ≡ string_bytes l.fn.text ++ leaf_lines l.g (map (λ p. p.blocks) l.leaves) l.kinds.items l.i;
+  lines : string_bytes l.text ≡ string_bytes l.fn.text ++ numbered_leaf_lines l.g (map (λ p. p.blocks) l.leaves) l.kinds.items l.i;
 }

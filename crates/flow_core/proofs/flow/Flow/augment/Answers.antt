@@ -2,7 +2,7 @@
 use Rattle.std.proofs.Common.{◌-◌, List, length, set, sym, subst, ap, ◌∙◌, arith, w64, ℤ}
 use Rattle.std.proofs.lemmas.Int.{to_z-of_z}
 use Rattle.flow_core.specs.Common.{visit_at}
-use Rattle.flow_core.proofs.Duality.{Fits-length}
+use Rattle.flow_core.proofs.Duality.{FitsCapacities-length}
 use Rattle.flow_core.proofs.SearchTrees.{room-below}
 use Rattle.flow_core.proofs.Pushing.{IsPushed, IsPushed-step, pushed-flow, flow-below}
 use Rattle.flow_core.proofs.flow.Flow.augment.Goals as goal
@@ -14,7 +14,7 @@ pub set-requires : goal.set-requires
 set-requires c =
     let p = c.pushing.invariant.pushed in
     let step = (c.requires.tree.each c.pushing.at c.pushing-test.true p.long).step.is_arc in
-    let l = Fits-length c.args.net.now.arcs c.pushing.self.on p.fits in omega arith
+    let l = FitsCapacities-length c.args.net.now.arcs c.pushing.self.on p.fits in omega arith
 
 pub pushing-preserved : goal.pushing-preserved
 pushing-preserved c = record {

@@ -1,5 +1,0 @@
-use Rattle.line_text.proofs.ReadBack.{significant_lines_of-comments}
-use Rattle.line_text.proofs.laws.comments_add_nothing.Goals as goal
-
-pub returns : goal.returns
-returns c = significant_lines_of-comments

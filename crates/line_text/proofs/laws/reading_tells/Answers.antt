@@ -1,5 +1,0 @@
-use Rattle.line_text.proofs.ExactlyOne as lemmas
-use Rattle.line_text.proofs.laws.reading_tells.Goals as goal
-
-pub returns : goal.returns
-returns g c = λ format text. lemmas.reading_tells (g.F.LineFormat.rules format) text

@@ -1,5 +1,0 @@
-use Rattle.tree_core.proofs.CutsBelow.{few-leaves}
-use Rattle.tree_core.proofs.laws.derivation_size.Goals as goal
-
-pub returns : goal.returns
-returns c = few-leaves
