@@ -1,7 +1,6 @@
 -- A matching with an edge more, between two vertices that it does not meet, and what a row that
 -- was read says of a matching's ends.
-use Rattle.std.proofs.Common.{◌≡◌, ℕ, suc, zero, ◌+◌, ◌*◌, ◌<◌, true, false, ◌==◌, ◌||◌, refl, sym, ap, ◌∙◌, arith, List, [], ◌∷◌, inl, ne_eqb, Some, length, slice_get}
-use Rattle.counting.proofs.Common.{both_ways, set-narrower, Within, bit, Set, put, IsRisingIn, mem}
+use Rattle.counting.proofs.Common.{◌≡◌, ℕ, suc, zero, ◌+◌, ◌*◌, ◌<◌, true, false, ◌==◌, ◌||◌, refl, sym, ap, ◌∙◌, arith, List, [], ◌∷◌, inl, ne_eqb, Some, length, slice_get, both_ways, set-narrower, Within, bit, Set, put, IsRisingIn, mem}
 use Rattle.graph_core.proofs.Common.{Graph, IsGraph, IsMultigraph, degree, first_end, second_end, size, IsMatching, missed_count, add_edge}
 use Rattle.match_core.specs.Common.{IsOf, KeepsMatching, MatchingValue, edges_of, ends_at}
 use Rattle.match_core.specs.declared.matching.MatchRow.{MatchRow}

@@ -2,8 +2,7 @@
 -- ends and back. The edges meet their ends once, so they are glued to the one and cut off the
 -- other; and a perfect matching leaves few vertices missed when the edges at these ends are taken
 -- out.
-use Rattle.std.proofs.Common.{◌≡◌, ℕ, ◌*◌, ◌≢◌, true, false, ◌==◌, ◌||◌, ◌⊎◌, refl, sym, ap, ◌∙◌, arith, inl, inr, eqb-true, ne_eqb}
-use Rattle.counting.proofs.Common.{both_ways, cases_eq, false_from_ne_true, true≢false, or_cases, Within, bit, Set, none, put, union, minus, everything}
+use Rattle.counting.proofs.Common.{◌≡◌, ℕ, ◌*◌, ◌≢◌, true, false, ◌==◌, ◌||◌, ◌⊎◌, refl, sym, ap, ◌∙◌, arith, inl, inr, eqb-true, ne_eqb, both_ways, cases_eq, false_from_ne_true, true≢false, or_cases, Within, bit, Set, none, put, union, minus, everything}
 use Rattle.graph_core.proofs.Common.{Graph, IsGraph, IsMultigraph, degree, first_end, second_end, size, Allowed, HasPerfect, IsPerfect, Together, degree_congr, none_matching, degree_put, ends_of}
 use Rattle.match_search.proofs.AlternatingPaths.{put_off, put_at}
 use Rattle.match_search.specs.Common.{MeetOnce}

@@ -1,8 +1,7 @@
 -- A barrier grows by a vertex v of an odd component K if K - v has no perfect matching. By the
 -- theorem of Tutte and Berge, K - v has a set that shows this; together with the barrier and v it
 -- is a barrier.
-use Rattle.std.proofs.Common.{◌≡◌, ℕ, suc, zero, ◌+◌, ◌≤◌, Bool, true, false, ◌==◌, refl, sym, ap, ap₂, ◌∙◌, arith, ◌&&◌, ◌||◌, not, ne_eqb, eqb-true, inl, inr, nat_lt, List, [], ◌∷◌}
-use Rattle.counting.proofs.Common.{same_tests, cases_eq, false_from_ne_true, both_ways, count_singleton, some_congr, count_complement, count_congr, odd-add, total_add, total_congr, Within, bit, count, is_odd, Set, complement, minus, none, singleton, union}
+use Rattle.counting.proofs.Common.{◌≡◌, ℕ, suc, zero, ◌+◌, ◌≤◌, Bool, true, false, ◌==◌, refl, sym, ap, ap₂, ◌∙◌, arith, ◌&&◌, ◌||◌, not, ne_eqb, eqb-true, inl, inr, nat_lt, List, [], ◌∷◌, same_tests, cases_eq, false_from_ne_true, both_ways, count_singleton, some_congr, count_complement, count_congr, odd-add, total_add, total_congr, Within, bit, count, is_odd, Set, complement, minus, none, singleton, union}
 use Rattle.barrier_kit.proofs.BarrierCuts.{leader_same, leads_out}
 use Rattle.barrier_kit.proofs.Barriers.{few_odd_components, odd_component_count-parity}
 use Rattle.graph_core.proofs.Common.{none_missed-perfect, joined_outside, joined_walk, walk_joined, adjacent-edge, adjacent_back, adjacent_from, adjacent_within, joined_on, joined_self, is_least, odd_component_count, Graph, IsGraph, IsPerfect, missed_count, IsBarrier, Joined, Walk, adjacent, joined}

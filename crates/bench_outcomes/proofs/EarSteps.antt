@@ -1,7 +1,6 @@
 -- An ear list of a graph has no more steps than the graph has edges, since each step adds an edge
 -- to the stage before it.
-use Rattle.std.proofs.Common.{◌+◌, ◌≤◌, List, [], ◌∷◌, length, arith}
-use Rattle.counting.proofs.Common.{count, Set, singleton, count_le}
+use Rattle.counting.proofs.Common.{◌+◌, ◌≤◌, List, [], ◌∷◌, length, arith, count, Set, singleton, count_le}
 use Rattle.graph_core.proofs.Common.{Graph, size}
 use Rattle.ear_core.specs.Common.{PlainEars, PlainStep, next_stage, AreSteps, IsEarList}
 use Rattle.ear_core.proofs.FirstStage.{step-adds}

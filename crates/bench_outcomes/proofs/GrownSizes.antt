@@ -1,8 +1,7 @@
 -- A graph grown from at most sixteen pieces has at most 64 vertices: the numbers of vertices are
 -- those of the pieces, each less two, wherever these are spliced. And it has few edges, as each
 -- graph on the way.
-use Rattle.std.proofs.Common.{◌≡◌, ℕ, zero, suc, ◌+◌, ◌-◌, ◌≤◌, nat_le, true, refl, sym, subst, arith, leb-true}
-use Rattle.counting.proofs.Common.{every_true}
+use Rattle.counting.proofs.Common.{◌≡◌, ℕ, zero, suc, ◌+◌, ◌-◌, ◌≤◌, nat_le, true, refl, sym, subst, arith, leb-true, every_true}
 use Rattle.graph_core.proofs.Common.{IsMultigraph, size}
 use Rattle.rand_pcg.specs.Lcg.{Lcg, started, increment_of}
 use Rattle.rand_pcg.specs.Pcg.{multiplier_64, pcg32}

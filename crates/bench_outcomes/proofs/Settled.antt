@@ -1,8 +1,7 @@
 -- The result of a task is determined by whether it succeeds: success, or a refusal, which is then
 -- possible. A refused tree is not a derivation, a refused list not an ear list, and moves that fail
 -- lead through no derivations to a last tree.
-use Rattle.std.proofs.Common.{◌≡◌, ◌∙◌, ℕ, List, [], ◌∷◌, ◌⊎◌, inl, inr, sym, subst}
-use Rattle.counting.proofs.Common.{none-some, same_Some, singleton}
+use Rattle.counting.proofs.Common.{◌≡◌, ◌∙◌, ℕ, List, [], ◌∷◌, ◌⊎◌, inl, inr, sym, subst, none-some, same_Some, singleton}
 use Rattle.graph_core.proofs.Common.{Graph, IsGraph, IsMultigraph, IsCovered}
 use Rattle.tree_core.proofs.Common.{IsDerivation, PlainMove, TurnsThrough, Shape}
 use Rattle.tree_check.specs.Common.{Why, IsRefused, IsStuckAt, IsRefusedMoveAt}

@@ -1,8 +1,7 @@
 -- In a derivation no Rotate is stuck at two shores that cross: a cut that is the `merged` child of
 -- another was found where the other's shore is one block, so its shore contains that block or does
 -- not meet it.
-use Rattle.std.proofs.Common.{◌≡◌, ◌∙◌, ◌≢◌, inl, inr, List, [], ◌∷◌, ℕ, true, false, not, ◌&&◌, sym, subst, ap, None}
-use Rattle.counting.proofs.Common.{everything, is_apart, is_subset, mem, mem-within, member-of_set, minus, true_all_in}
+use Rattle.counting.proofs.Common.{◌≡◌, ◌∙◌, ◌≢◌, inl, inr, List, [], ◌∷◌, ℕ, true, false, not, ◌&&◌, sym, subst, ap, None, everything, is_apart, is_subset, mem, mem-within, member-of_set, minus, true_all_in}
 use Rattle.graph_core.proofs.Common.{Graph, IsPartition, inside_or_apart, merged, merged_merges, singles, singles-partition}
 use Rattle.refusals.specs.declared.faults.StuckFault.{StuckFault}
 use Rattle.refusals.specs.declared.faults.StuckFault.TheVariants.{Crossing}

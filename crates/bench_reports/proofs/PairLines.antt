@@ -1,7 +1,6 @@
 -- The lines of the leaves from a place on: that of the leaf there, and then those from the next
 -- place on.
-use Rattle.std.proofs.Common.{◌≡◌, ℕ, zero, suc, ◌+◌, List, [], ◌∷◌, ◌++◌, Some, append_assoc, drop, length, slice_get, refl, ap, arith}
-use Rattle.counting.proofs.Common.{none-some, same_Some}
+use Rattle.counting.proofs.Common.{◌≡◌, ℕ, zero, suc, ◌+◌, List, [], ◌∷◌, ◌++◌, Some, append_assoc, drop, length, slice_get, refl, ap, arith, none-some, same_Some}
 use Rattle.tree_core.proofs.Common.{PlainLeafMap}
 use Rattle.report_text.specs.declared.comparisons.MapLine.{MapLine}
 use Rattle.bench_outcomes.specs.Common.{line_of, map_lines_of}

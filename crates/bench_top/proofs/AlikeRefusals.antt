@@ -1,7 +1,6 @@
 -- Two refusals of one thing have one text, but for the list of numbers that they show: the first
 -- node that breaks a rule is one, and so is the rule, and the first step or move that fails.
-use Rattle.std.proofs.Common.{◌≡◌, ◌∙◌, ℕ, List, ◌++◌, inl, inr, refl, sym, ap₂, subst, arith, codes}
-use Rattle.counting.proofs.Common.{singleton}
+use Rattle.counting.proofs.Common.{◌≡◌, ◌∙◌, ℕ, List, ◌++◌, inl, inr, refl, sym, ap₂, subst, arith, codes, singleton}
 use Rattle.graph_core.proofs.Common.{Graph, IsGraph}
 use Rattle.tree_core.proofs.Common.{IsDerivation, PlainMove, Shape}
 use Rattle.tree_check.proofs.FirstRefusals.{refused-not_derived, refused-once}

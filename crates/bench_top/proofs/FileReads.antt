@@ -1,7 +1,6 @@
 -- What is read of a file that is held and within the limit of bytes is what its text is read as.
 -- Each lemma looks the file up, leaves the test of its length after, and computes.
-use Rattle.std.proofs.Common.{◌≡◌, ℕ, ◌≤◌, List, length, Ok, Result, false, ap, ◌∙◌, arith, Some, Option, Bool, cond, nat_lt}
-use Rattle.counting.proofs.Common.{nat_tests}
+use Rattle.counting.proofs.Common.{◌≡◌, ℕ, ◌≤◌, List, length, Ok, Result, false, ap, ◌∙◌, arith, Some, Option, Bool, cond, nat_lt, nat_tests}
 use Rattle.line_text.specs.Common.{kind_number}
 use Rattle.line_text.specs.declared.faults.FaultKind.{FaultKind}
 use Rattle.line_text.specs.declared.faults.FaultKind.TheVariants.{Limit}

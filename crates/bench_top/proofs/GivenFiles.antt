@@ -1,8 +1,6 @@
 -- There are files that reads gave, whatever they answered: one for each answer that gave one, named
 -- by its place. They hold what was answered at each place, since places differ.
-use Rattle.std.proofs.Common.{◌≡◌, ◌<◌, ℕ, ◌+◌, List, [], ◌∷◌, length, refl, subst, sym, arith, Result, Ok, Err, replicate, false, Option, Some, bytes_eq}
-use Rattle.std.proofs.lemmas.List.{length-replicate}
-use Rattle.counting.proofs.Common.{nat_tests}
+use Rattle.counting.proofs.Common.{◌≡◌, ◌<◌, ℕ, ◌+◌, List, [], ◌∷◌, length, refl, subst, sym, arith, Result, Ok, Err, replicate, false, Option, Some, bytes_eq, length-replicate, nat_tests}
 use Rattle.outside.specs.Common.{Answer, NamedFile, file_named, most_bytes}
 use Rattle.outside.specs.declared.shelf.ShelfFault.TheVariants.{Failed, TooLong, Memory}
 use Rattle.bench_tasks.specs.Common.{FailedAs, GathersAnswered, HoldGiven, IsReadFault, failures_of, by_place, place_name, Command, loaded, Held, LoadsAs, task_of}

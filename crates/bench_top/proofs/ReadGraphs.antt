@@ -2,10 +2,7 @@
 -- vertices, and differ. What has been read so far keeps this from line to line, and has no more
 -- names than vertices, so that the vertex of a name is one of the graph.
 use Rattle.std.proofs.Common.{◌≡◌, ◌≢◌, ℕ, zero, suc, ◌+◌, ◌<◌, ◌≤◌, ◌==◌, ◌||◌, not, nat_lt, Bool, true, false, cond, List, [], ◌∷◌, ◌++◌, length, Option, Some, None, Result, Ok, Err, refl, sym, arith, length-append, slice_index_or, ltb-true, bytes_eq}
-use Rattle.counting.proofs.Common.{AllByRecursion, list_any, and_parts, both_ways, or_parts, true≢false, not-false, nat_tests, bytes_eq-Decides, Within}
-use Rattle.std.specs.List.{position_or_len}
-use Rattle.std.specs.Result.{result_map_both}
-use Rattle.std.proofs.lemmas.Bool.{eqb-false}
+use Rattle.counting.proofs.Common.{position_or_len, result_map_both, eqb-false, AllByRecursion, list_any, and_parts, both_ways, or_parts, true≢false, not-false, nat_tests, bytes_eq-Decides, Within}
 use Rattle.graph_core.proofs.Common.{Graph, HasNoLoop, IsGraph, IsMultigraph, size}
 use Rattle.line_text.specs.declared.faults.FaultKind.TheVariants as kind
 use Rattle.line_text.specs.Common.{checked, finish, step, go_on, reading_from, reading_of, SignificantLine, significant_lines_of, lines_of}

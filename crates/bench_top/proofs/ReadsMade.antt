@@ -1,7 +1,6 @@
 -- What was read by the time that loading ends is the first few names; and where a read failed
 -- over a steady shelf, its file is not held.
-use Rattle.std.proofs.Common.{◌≡◌, ℕ, List, Bool, IsTrue, Result, length, arith}
-use Rattle.counting.proofs.Common.{take_all}
+use Rattle.counting.proofs.Common.{◌≡◌, ℕ, List, Bool, IsTrue, Result, length, arith, take_all}
 use Rattle.outside.specs.Common.{Answer, ReadsFirst}
 use Rattle.bench_tasks.specs.Common.{Loaded, Absent, FailsAs, IsReadFault, ReadsAs}
 use Rattle.bench_tasks.specs.declared.stop.Stop.{Stop}

@@ -1,8 +1,7 @@
 -- What is written is read back. An output that stands for a value is read as this value by a file
 -- that holds it, and the value is one with which a further command succeeds: a derivation, an ear
 -- list, a matching covered graph.
-use Rattle.std.proofs.Common.{◌≡◌, ◌∙◌, ℕ, ◌≤◌, ◌<◌, ◌^◌, nat_le, List, [], ◌∷◌, length, Option, Some, None, Result, Ok, inl, inr, refl, sym, subst, ap, arith, option_map, codes, leb-true}
-use Rattle.counting.proofs.Common.{and_parts}
+use Rattle.counting.proofs.Common.{◌≡◌, ◌∙◌, ℕ, ◌≤◌, ◌<◌, ◌^◌, nat_le, List, [], ◌∷◌, length, Option, Some, None, Result, Ok, inl, inr, refl, sym, subst, ap, arith, option_map, codes, leb-true, and_parts}
 use Rattle.outside.specs.Common.{NamedFile, file_named, most_bytes}
 use Rattle.line_text.specs.Common.{Stands, reading_of}
 use Rattle.line_text.proofs.ExactlyOne.{Stands-from_reading, Stands-reading_of}

@@ -2,8 +2,7 @@
 -- vertices, or a cut pair. A shore of a bicritical graph gives a list of balanced shores, which is
 -- uncrossed until it gives a cut pair; a graph that is not bicritical has a barrier by the theorem
 -- of Tutte and Berge.
-use Rattle.std.proofs.Common.{ℕ, suc, ◌+◌, ◌≤◌, ◌≢◌, ◌∷◌, ◌⊎◌, ◌↔◌, inl, inr, arith}
-use Rattle.counting.proofs.Common.{cases_eq, two_members, scan, Within, bit, count, Set, pair_set}
+use Rattle.counting.proofs.Common.{ℕ, suc, ◌+◌, ◌≤◌, ◌≢◌, ◌∷◌, ◌⊎◌, ◌↔◌, inl, inr, arith, cases_eq, two_members, scan, Within, bit, count, Set, pair_set}
 use Rattle.graph_core.proofs.Common.{covered_perfect, IsCovered, Graph, IsBipartite, IsMultigraph, in_cut, HasPerfect, IsPerfect, IsBarrier, IsBicritical, IsCutPair, IsNontrivial, IsTight}
 use Rattle.barrier_kit.proofs.Common.{equivalent_barrier, no_sides, perfect_or_not}
 use Rattle.separation_kit.proofs.CutPairs.{brick_facts}

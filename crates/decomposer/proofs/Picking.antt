@@ -1,9 +1,7 @@
 -- Steps of a decomposition. A candidate at a partition is a cut there; where an order takes the
 -- first candidate, its shore is picked; and a cut with two trees is the tree that the order
 -- picks, and a derivation, where both trees are.
-use Rattle.std.proofs.Common.{◌≡◌, ℕ, ◌+◌, ◌<◌, List, length, map, ◌++◌, append_assoc, All, refl, ap, ap₂, sym, ◌∙◌, arith, subst, slice_get, Option, Some, true, false, ◌==◌}
-use Rattle.counting.proofs.Common.{both_ways, length-map, map-append, get_or_from_slice_get}
-use Rattle.std.proofs.lemmas.Option.{slice_get_within}
+use Rattle.counting.proofs.Common.{◌≡◌, ℕ, ◌+◌, ◌<◌, List, length, map, ◌++◌, append_assoc, All, refl, ap, ap₂, sym, ◌∙◌, arith, subst, slice_get, Option, Some, true, false, ◌==◌, slice_get_within, both_ways, length-map, map-append, get_or_from_slice_get}
 use Rattle.graph_core.proofs.Common.{IsCovered, Graph, IsGraph, singles}
 use Rattle.tight_cuts.proofs.FirstCandidates.{first-one, first-place}
 use Rattle.tight_cuts.proofs.PartitionCandidates.{found-root, root-candidates}

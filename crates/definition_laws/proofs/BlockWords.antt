@@ -1,8 +1,7 @@
 -- A perfect matching and a tight shore at a partition, defined without the contracted graph. They
 -- are the wordings for the contracted graph, whose ends are places of blocks and whose cuts are
 -- those of the graph.
-use Rattle.std.proofs.Common.{◌≡◌, ℕ, true, List, length, refl, sym, ap, ◌∙◌, arith, subst, ◌↔◌}
-use Rattle.counting.proofs.Common.{Within, is_odd, mem, Set, complement, none}
+use Rattle.counting.proofs.Common.{◌≡◌, ℕ, true, List, length, refl, sym, ap, ◌∙◌, arith, subst, ◌↔◌, Within, is_odd, mem, Set, complement, none}
 use Rattle.graph_core.proofs.Common.{contracted-ends, contracted-graph, contracted-order, contracted-size, place_in, place_is, block_count_rest, edges-in-cut-at, Graph, IsGraph, edges_in_cut, size, IsEnd, AreBlocks, IsPerfectAt, block, contracted, place, IsTightAt, IsUnion, block_count}
 use Rattle.definition_laws.proofs.MatchingWords.{avoids_none, meets-perfect, perfect-meets, perfect-no_loop}
 use Rattle.definition_laws.specs.Words.{HasEndIn, LeavesBlocks, MeetsEachBlockOnce}

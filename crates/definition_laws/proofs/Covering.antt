@@ -1,9 +1,7 @@
 -- Each vertex outside the removed set is in exactly one listed component, and each vertex of a
 -- covered graph in exactly one listed class. The list of the least vertices holds the one that
 -- represents it, once.
-use Rattle.std.proofs.Common.{◌≡◌, ℕ, suc, ◌<◌, true, false, List, [], ◌∷◌, length, map, refl, sym, ap, ◌∙◌, arith, inl, inr, ◌&&◌, ◌==◌, not, eqb-true, nat_lt, lt-ltb, ltb-true, Any, ◌-◌, slice_index_or}
-use Rattle.counting.proofs.Common.{and_from, and_parts, both_ways, cases_order, false_from_ne_true, or_cases, true≢false, not-true, get_or-map, length-map, rising_holds, rising_only, mem-item, rising_list-rises, least_true, some_true, true_some, Within, IsRisingIn, item, mem, rising_list, Set, some}
-use Rattle.std.proofs.lemmas.List.Kept.{AllPairs-from_increasing}
+use Rattle.counting.proofs.Common.{◌≡◌, ℕ, suc, ◌<◌, true, false, List, [], ◌∷◌, length, map, refl, sym, ap, ◌∙◌, arith, inl, inr, ◌&&◌, ◌==◌, not, eqb-true, nat_lt, lt-ltb, ltb-true, Any, ◌-◌, slice_index_or, AllPairs-from_increasing, and_from, and_parts, both_ways, cases_order, false_from_ne_true, or_cases, true≢false, not-true, get_or-map, length-map, rising_holds, rising_only, mem-item, rising_list-rises, least_true, some_true, true_some, Within, IsRisingIn, item, mem, rising_list, Set, some}
 use Rattle.barrier_kit.proofs.Common.{equivalent_back, equivalent_on}
 use Rattle.graph_core.proofs.Common.{joined_walk, walk_joined, is_equivalent_found, is_equivalent_says, least_same, joined_back, joined_on, components, is_least, IsCovered, Graph, IsGraph, Equivalent, classes, is_equivalent, is_least_of_class, joined}
 use Rattle.definition_laws.proofs.Leaders.{leader}

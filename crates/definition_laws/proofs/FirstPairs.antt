@@ -1,7 +1,6 @@
 -- The first pair that a search through the pairs a < b finds is the first in lexicographic order.
 -- The list is increasing row by row, so every pair before the one found comes earlier in the list.
-use Rattle.std.proofs.Common.{◌≡◌, ℕ, ◌<◌, ◌≤◌, Bool, true, false, List, [], ◌∷◌, ◌++◌, map, flat_map, Some, None, refl, arith, inl, inr, not, nat_lt, nat_le, lt-ltb, ltb-true, leb-true, subst, leb-false, find}
-use Rattle.counting.proofs.Common.{both_ways, not-true, not-false, HasPair, rows_hold, rows_only, map_pair, append_pair, above_first, mem-all, rising-tail, rising_list-rises, Within, IsRisingIn, pair_with, rising_list, rising_pairs, ComesBefore, everything, pair_set}
+use Rattle.counting.proofs.Common.{◌≡◌, ℕ, ◌<◌, ◌≤◌, Bool, true, false, List, [], ◌∷◌, ◌++◌, map, flat_map, Some, None, refl, arith, inl, inr, not, nat_lt, nat_le, lt-ltb, ltb-true, leb-true, subst, leb-false, find, both_ways, not-true, not-false, HasPair, rows_hold, rows_only, map_pair, append_pair, above_first, mem-all, rising-tail, rising_list-rises, Within, IsRisingIn, pair_with, rising_list, rising_pairs, ComesBefore, everything, pair_set}
 use Rattle.graph_core.proofs.Common.{has_perfect_found, has_perfect_says, component_count, Graph, HasPerfect, has_perfect, cut_pair, equivalent_pair}
 use Rattle.definition_laws.specs.Words.{IsFirstPair}
 

@@ -1,8 +1,7 @@
 -- The components by least vertex are the components: each vertex is joined to exactly one least
 -- vertex. The test for a least vertex looks at the vertices below it, and the lists are those of
 -- the test for a walk.
-use Rattle.std.proofs.Common.{◌≡◌, ℕ, ◌≤◌, ◌<◌, true, false, ◌∙◌, sym, arith, ◌&&◌, not, nat_lt, lt-ltb, ltb-true, inl, refl, All, slice_index_or}
-use Rattle.counting.proofs.Common.{and_parts, and_from, both_ways, false_from_ne_true, not-true, All-map, bit_true, only_one, rising_only, mem-item, mem-rising_list, rising_list-rises, some_true, true_some, some_term, Within, bit, count, is_odd, rising_list, Set, some}
+use Rattle.counting.proofs.Common.{◌≡◌, ℕ, ◌≤◌, ◌<◌, true, false, ◌∙◌, sym, arith, ◌&&◌, not, nat_lt, lt-ltb, ltb-true, inl, refl, All, slice_index_or, and_parts, and_from, both_ways, false_from_ne_true, not-true, All-map, bit_true, only_one, rising_only, mem-item, mem-rising_list, rising_list-rises, some_true, true_some, some_term, Within, bit, count, is_odd, rising_list, Set, some}
 use Rattle.graph_core.proofs.Common.{joined_walk, one_leader, some_leader, walk_joined, is_equivalent_found, is_equivalent_says, joined_self, component_count, components, is_least, odd_component_count, Graph, IsGraph, classes, is_equivalent, is_least_of_class, Joined, joined}
 use Rattle.definition_laws.specs.Words.{IsComponent, IsListOfClass}
 

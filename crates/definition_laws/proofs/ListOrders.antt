@@ -1,10 +1,7 @@
 -- The lists of components and of classes are ordered by their least vertices: each is the list of
 -- what belongs to its least vertex, and the least vertices are in increasing order. The odd lists
 -- are counted at these vertices.
-use Rattle.std.proofs.Common.{◌≡◌, ℕ, zero, suc, Bool, true, cond, ◌&&◌, ◌∷◌, [], List, length, map, refl, sym, arith, inl, inr, nat_lt, lt-ltb, subst, ◌≤◌, count_by, slice_index}
-use Rattle.counting.proofs.Common.{and_from, both_ways, cases_order, false_from_ne_true, not-true, true≢false, map-append, count_congr, rising_holds, rising_only, first-least, length-rising_list, rising_list-rises, true_some, Within, count, is_odd, IsLeastOf, IsRisingIn, mem, rising_list, Set, some}
-use Rattle.std.proofs.lemmas.List.Sums.{sum_by-append}
-use Rattle.std.specs.List.Sorted.{IsStrictlyIncreasing}
+use Rattle.counting.proofs.Common.{◌≡◌, ℕ, zero, suc, Bool, true, cond, ◌&&◌, ◌∷◌, [], List, length, map, refl, sym, arith, inl, inr, nat_lt, lt-ltb, subst, ◌≤◌, count_by, slice_index, sum_by-append, IsStrictlyIncreasing, and_from, both_ways, cases_order, false_from_ne_true, not-true, true≢false, map-append, count_congr, rising_holds, rising_only, first-least, length-rising_list, rising_list-rises, true_some, Within, count, is_odd, IsLeastOf, IsRisingIn, mem, rising_list, Set, some}
 use Rattle.barrier_kit.proofs.Common.{equivalent_back}
 use Rattle.graph_core.proofs.Common.{joined_walk, walk_joined, is_equivalent_found, is_equivalent_says, joined_self, components, is_least, odd_component_count, Graph, IsGraph, classes, is_equivalent, is_least_of_class, joined}
 use Rattle.definition_laws.proofs.Leaders.{least_says}

@@ -1,8 +1,7 @@
 -- The test for a matching with so many edges is true if and only if there is one. Like the tests
 -- for perfect matchings it searches through all edge sets, and its condition depends only on the
 -- edge numbers.
-use Rattle.std.proofs.Common.{◌≡◌, ℕ, true, ◌==◌, ap, ap₂, ◌&&◌, eq-eqb, eqb-true, arith}
-use Rattle.counting.proofs.Common.{and_from, and_parts, set_found, some_set_found, count_congr, count, Set}
+use Rattle.counting.proofs.Common.{◌≡◌, ℕ, true, ◌==◌, ap, ap₂, ◌&&◌, eq-eqb, eqb-true, arith, and_from, and_parts, set_found, some_set_found, count_congr, count, Set}
 use Rattle.graph_core.proofs.Common.{is_matching_congr, is_matching_true, true_is_matching, Graph, size, IsMatching, has_matching_of, is_matching}
 
 -- some matching has k edges where the test says so

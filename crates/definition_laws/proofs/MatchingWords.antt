@@ -1,8 +1,7 @@
 -- Matchings by degrees are the textbook's matchings: no edge has an end in the removed set, each
 -- vertex is met once. A degree is a sum of ends over the edges, so an edge with an end at a vertex
 -- of degree 1 is its only one, and the other way round.
-use Rattle.std.proofs.Common.{◌≡◌, ℕ, ◌*◌, ◌≤◌, ◌≢◌, true, false, refl, sym, ap, arith, inl, inr, eq-eqb, ne_eqb}
-use Rattle.counting.proofs.Common.{cases_eq, true≢false, total_at, total_none, Within, bit, Set, none}
+use Rattle.counting.proofs.Common.{◌≡◌, ℕ, ◌*◌, ◌≤◌, ◌≢◌, true, false, refl, sym, ap, arith, inl, inr, eq-eqb, ne_eqb, cases_eq, true≢false, total_at, total_none, Within, bit, Set, none}
 use Rattle.graph_core.proofs.Common.{degree_sum, edge_at, ends_le_degree, ends_of, ends_of_is, perfect_matching, apart_matching, ends_one, matching_apart, one_end, Graph, HasNoLoop, IsGraph, degree, first_end, second_end, size, IsEnd, IsMatching, IsPerfect, ShareNoEnd}
 use Rattle.definition_laws.specs.Words.{Avoids, HoldsNoLoop, MeetsEachOnce}
 

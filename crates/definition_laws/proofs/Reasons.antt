@@ -1,8 +1,7 @@
 -- A graph is matching covered or there is a reason why not, never both, and no two reasons. Each
 -- reason denies a part of being covered and asserts the parts before it; each part is decided,
 -- and each graph has a Berge set.
-use Rattle.std.proofs.Common.{◌≡◌, ℕ, ◌+◌, ◌≤◌, ◌⊎◌, ◌||◌, inl, inr, refl, sym, ap, ap₂, ◌∙◌, arith, List, nat_le, leb-true, leb-false}
-use Rattle.counting.proofs.Common.{all_or_least, cases_Bool, count_congr, mem-rising_list, rising_list-rises, least-one, Within, IsRisingIn, mem, rising_list, none, union}
+use Rattle.counting.proofs.Common.{◌≡◌, ℕ, ◌+◌, ◌≤◌, ◌⊎◌, ◌||◌, inl, inr, refl, sym, ap, ap₂, ◌∙◌, arith, List, nat_le, leb-true, leb-false, all_or_least, cases_Bool, count_congr, mem-rising_list, rising_list-rises, least-one, Within, IsRisingIn, mem, rising_list, none, union}
 use Rattle.barrier_kit.proofs.Common.{perfect_or_not, odd_component_count-congr}
 use Rattle.graph_core.proofs.Common.{allowed_or_not, joined_back, joined_on, joined_or_not, IsBergeSet, IsConnected, IsCovered, IsReason, Reason, Small, Parted, Unmatched, Unallowed, Graph, IsGraph, size, Allowed, HasPerfect, missed_count, Joined}
 use Rattle.definition_laws.specs.Words.{without_berge}

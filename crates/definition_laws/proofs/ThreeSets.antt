@@ -1,7 +1,6 @@
 -- Each vertex is in exactly one of the Gallai-Edmonds sets D, A and C. Whether some maximum
 -- matching misses a vertex is decided, and so is whether a vertex is adjacent to such a one.
-use Rattle.std.proofs.Common.{◌≡◌, ℕ, true, ◌⊎◌, inl, inr, arith}
-use Rattle.counting.proofs.Common.{scan, Within, none}
+use Rattle.counting.proofs.Common.{◌≡◌, ℕ, true, ◌⊎◌, inl, inr, arith, scan, Within, none}
 use Rattle.graph_core.proofs.Common.{missed_or_met, InA, InC, InD, Graph, adjacent}
 
 -- some maximum matching misses v, or none does

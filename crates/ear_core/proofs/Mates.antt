@@ -1,7 +1,6 @@
 -- The mates of a perfect matching: each vertex has one edge of it, and the other end of that edge
 -- has the same one. So a vertex is the mate of its mate.
-use Rattle.std.proofs.Common.{◌≡◌, ℕ, suc, ◌≢◌, Bool, true, cond, ◌==◌, refl, sym, ap, ◌∙◌, arith, ◌||◌, eq-eqb, eqb-true, List, [], ◌∷◌, map, All}
-use Rattle.counting.proofs.Common.{cases_eq, or_left, or_right, or_cases, true≢false, Within, mem, Set, none}
+use Rattle.counting.proofs.Common.{◌≡◌, ℕ, suc, ◌≢◌, Bool, true, cond, ◌==◌, refl, sym, ap, ◌∙◌, arith, ◌||◌, eq-eqb, eqb-true, List, [], ◌∷◌, map, All, cases_eq, or_left, or_right, or_cases, true≢false, Within, mem, Set, none}
 use Rattle.barrier_kit.proofs.Common.{loop_free}
 use Rattle.graph_core.proofs.Common.{edge_at, two_ends_le_degree, Graph, size, first_end, IsGraph, IsPerfect}
 use Rattle.match_core.specs.Common.{MatchingValue, IsRowOf, edges_of}

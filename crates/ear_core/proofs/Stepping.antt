@@ -1,10 +1,7 @@
 -- The builder step by step. An edge off the stage leads out of it as long as one is left; a step
 -- of ears that hold the mates of their vertices keeps this of the stage; and steps that go on
 -- from a stage make a list with those before.
-use Rattle.std.proofs.Common.{◌≡◌, ℕ, ◌+◌, ◌≤◌, Bool, true, false, refl, sym, ap, ◌∙◌, arith, ◌&&◌, ◌||◌, not, eq-eqb, inl, inr, subst, [], ◌∷◌, ◌++◌, List, Result, IfOk, append_assoc}
-use Rattle.std.proofs.Math.Path.{fun_ext}
-use Rattle.std.proofs.lemmas.Bool.{true_from_ne_false}
-use Rattle.counting.proofs.Common.{cases_Bool, both_ways, true≢false, false_from_ne_true, or_left, or_right, or_cases, count_complement, AllByRecursion, count, Within, mem, IsIn, Set, none, singleton, complement}
+use Rattle.counting.proofs.Common.{◌≡◌, ℕ, ◌+◌, ◌≤◌, Bool, true, false, refl, sym, ap, ◌∙◌, arith, ◌&&◌, ◌||◌, not, eq-eqb, inl, inr, subst, [], ◌∷◌, ◌++◌, List, Result, IfOk, append_assoc, fun_ext, true_from_ne_false, cases_Bool, both_ways, true≢false, false_from_ne_true, or_left, or_right, or_cases, count_complement, AllByRecursion, count, Within, mem, IsIn, Set, none, singleton, complement}
 use Rattle.barrier_kit.proofs.Common.{cut_edge}
 use Rattle.graph_core.proofs.Common.{IsCovered, Graph, size, first_end, second_end, IsGraph, IsMultigraph, HasPerfect, Allowed}
 use Rattle.match_core.specs.Common.{MatchingValue, edges_of}

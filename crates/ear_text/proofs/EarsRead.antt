@@ -1,8 +1,7 @@
 -- What is read of a text can be written again. Along the lines of a text the numbers of the ears
 -- read so far are in range and no ear is empty: each line keeps this, since it passed the tests
 -- of the table.
-use Rattle.std.proofs.Common.{◌≡◌, ◌<◌, ◌==◌, ◌||◌, ◌&&◌, ◌++◌, codes, not, nat_le, if◌then◌else◌, ℕ, List, [], ◌∷◌, Bool, length, map, true, Option, Some, None, is_some, Result, Ok, Err, IfOk, refl, sym, subst, arith}
-use Rattle.counting.proofs.Common.{AllByRecursion, list_all, list_any, and_parts, or_parts, both_ways, not-false, Within}
+use Rattle.counting.proofs.Common.{◌≡◌, ◌<◌, ◌==◌, ◌||◌, ◌&&◌, ◌++◌, codes, not, nat_le, if◌then◌else◌, ℕ, List, [], ◌∷◌, Bool, length, map, true, Option, Some, None, is_some, Result, Ok, Err, IfOk, refl, sym, subst, arith, AllByRecursion, list_all, list_any, and_parts, or_parts, both_ways, not-false, Within}
 use Rattle.line_text.specs.Common.{Begins, Stands, finish, has_form, word_at, is_number, value_of, is_out_of_range}
 use Rattle.line_text.proofs.Tables.{all_passed, no_value, value_or}
 use Rattle.line_text.proofs.InRange.{all-in_range, in_range}

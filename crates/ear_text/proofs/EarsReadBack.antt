@@ -1,8 +1,7 @@
 -- The text written for an ear list is read as this list. Line by line the tests of the table pass,
 -- since the numbers are in range and no ear is empty; the pending ear goes to the steps with the
 -- next line, or at the end.
-use Rattle.std.proofs.Common.{◌≡◌, ◌<◌, ◌^◌, ◌++◌, codes, ℕ, List, [], ◌∷◌, All, length, map, true, false, Option, Some, None, Ok, refl, sym, ◌∙◌, ap, subst, arith, append_assoc, decimal}
-use Rattle.counting.proofs.Common.{AllByRecursion, list_all, length-map, append-nil, nat_tests, Within}
+use Rattle.counting.proofs.Common.{◌≡◌, ◌<◌, ◌^◌, ◌++◌, codes, ℕ, List, [], ◌∷◌, All, length, map, true, false, Option, Some, None, Ok, refl, sym, ◌∙◌, ap, subst, arith, append_assoc, decimal, AllByRecursion, list_all, length-map, append-nil, nat_tests, Within}
 use Rattle.line_text.specs.Common.{Begins, Stands, has_form, IsSignificant, is_number, value_of}
 use Rattle.line_text.proofs.Decimals.{number_of-decimal, is_word-decimal, value-decimal, number-decimal, values-decimal, numbers-decimal, words-decimal}
 use Rattle.line_text.proofs.InRange.{in_range-test, in_range-tests, few-digits}

@@ -1,7 +1,6 @@
 -- The lines of an ear, of a step and of an ear list. Idea: the text written so far is always a list
 -- of complete lines, and appending the line of an ear makes a longer such list.
-use Rattle.std.proofs.Common.{◌≡◌, ℕ, List, [], ◌∷◌, ◌++◌, codes, length, map, sym, ◌∙◌, ap, append_assoc, arith, decimal}
-use Rattle.counting.proofs.Common.{append-nil}
+use Rattle.counting.proofs.Common.{◌≡◌, ℕ, List, [], ◌∷◌, ◌++◌, codes, length, map, sym, ◌∙◌, ap, append_assoc, arith, decimal, append-nil}
 use Rattle.line_text.specs.Common.{written}
 use Rattle.line_text.proofs.WrittenLines.{spaced, unwords-spaced, written-append}
 use Rattle.ear_core.specs.Common.{PlainEar, PlainStep, two, PlainEars}

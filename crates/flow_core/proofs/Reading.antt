@@ -1,11 +1,8 @@
 -- What the code reads of a net: its arcs, the rows of its nodes and the amounts on its arcs.
 -- Idea: each is a reading law of lists, at the one default that the definitions use.
-use Rattle.std.proofs.Common.{◌≡◌, ℕ, zero, suc, ◌<◌, ◌≤◌, List, [], ◌∷◌, ◌++◌, length, get_or, set, refl, sym, ◌∙◌, subst, arith, w64, to_z, of_z, All, ℤ, pos, slice_get, Some, unsigned_abs}
+use Rattle.counting.proofs.Common.{◌≡◌, ℕ, zero, suc, ◌<◌, ◌≤◌, List, [], ◌∷◌, ◌++◌, length, get_or, set, refl, sym, ◌∙◌, subst, arith, w64, to_z, of_z, All, ℤ, pos, slice_get, Some, unsigned_abs, to_z-of_z, map-set, get_or_from_slice_get, get_or-map, length-map, All-head, All-tail, row_of}
 use mir.Val.{SFits}
 use Rattle.std.specs.Global.{Vec}
-use Rattle.std.proofs.lemmas.Int.{to_z-of_z}
-use Rattle.counting.proofs.Common.{get_or_from_slice_get, get_or-map, length-map, All-head, All-tail, row_of}
-use Rattle.std.proofs.lemmas.List.{map-set}
 use Rattle.flow_core.specs.Common.{Arc, Net, IsArc, IsNet, FitsCapacities, arc_at, amount_at, rows_of}
 use Rattle.flow_core.proofs.Duality.{FitsCapacities-at}
 

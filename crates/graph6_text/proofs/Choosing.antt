@@ -1,9 +1,6 @@
 -- The pairs whose bit is set, in order: they are the edges that the loop has collected at its end.
 -- Idea: induction on the pairs and their bits together. Whether any of the bits is set.
-use Rattle.std.proofs.Common.{◌≡◌, ℕ, ◌+◌, ◌≤◌, ◌||◌, ◌∙◌, Bool, true, false, List, [], ◌∷◌, ◌++◌, drop, length, slice_get, refl, ap, arith, append_assoc, nat_lt, Option, Some, None}
-use Rattle.std.proofs.lemmas.List.{drop_all, drop_more}
-use Rattle.std.proofs.lemmas.Option.{slice_get_within}
-use Rattle.counting.proofs.Common.{cases_Bool, get_or_from_slice_get, list_any, nat_tests, append-nil, length-append}
+use Rattle.counting.proofs.Common.{◌≡◌, ℕ, ◌+◌, ◌≤◌, ◌||◌, ◌∙◌, Bool, true, false, List, [], ◌∷◌, ◌++◌, drop, length, slice_get, refl, ap, arith, append_assoc, nat_lt, Option, Some, None, drop_all, drop_more, slice_get_within, cases_Bool, get_or_from_slice_get, list_any, nat_tests, append-nil, length-append}
 use Rattle.line_text.specs.declared.faults.FaultKind.{FaultKind}
 use Rattle.line_text.specs.declared.faults.TextFault.{TextFault}
 use Rattle.line_text.specs.declared.faults.TextFault.TheVariants as fault

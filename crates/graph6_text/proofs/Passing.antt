@@ -1,8 +1,7 @@
 -- What the checks of a body say about it. Idea: where no error of a list of tests is first, each
 -- test fails; and the first error of two lists of tests is that of the one, or else that of the
 -- other.
-use Rattle.counting.proofs.Common.{list_all, list_any}
-use Rattle.std.proofs.Common.{◌≡◌, ℕ, ◌<◌, ◌≤◌, ◌==◌, Bool, true, false, cond, List, [], ◌∷◌, ◌++◌, length, take, drop, Option, Some, None, Ok, Err, refl, ap, ◌∙◌, arith, nat_lt}
+use Rattle.counting.proofs.Common.{◌≡◌, ℕ, ◌<◌, ◌≤◌, ◌==◌, Bool, true, false, cond, List, [], ◌∷◌, ◌++◌, length, take, drop, Option, Some, None, Ok, Err, refl, ap, ◌∙◌, arith, nat_lt, list_all, list_any}
 use Rattle.line_text.specs.Common.{IsFault}
 use Rattle.line_text.specs.declared.faults.FaultKind.TheVariants.{Padding}
 use Rattle.line_text.specs.declared.faults.TextFault.{TextFault}

@@ -1,8 +1,7 @@
 -- The text written for a graph in version 1 is read as this graph: the header leads to the graph
 -- without edges, and the line of each edge adds it, by induction over the edges. No test of the
 -- tables applies.
-use Rattle.std.proofs.Common.{◌≡◌, ◌+◌, ◌≤◌, ◌<◌, ℕ, List, [], ◌∷◌, ◌++◌, length, map, true, Some, Ok, refl, ap, subst, arith, append_assoc}
-use Rattle.counting.proofs.Common.{AllByRecursion, nat_tests, append-nil, length-append}
+use Rattle.counting.proofs.Common.{◌≡◌, ◌+◌, ◌≤◌, ◌<◌, ℕ, List, [], ◌∷◌, ◌++◌, length, map, true, Some, Ok, refl, ap, subst, arith, append_assoc, AllByRecursion, nat_tests, append-nil, length-append}
 use Rattle.line_text.specs.Common.{Begins, Stands, lines_of, has_form, words_of, unwords, is_skipped, IsSignificant}
 use Rattle.line_text.proofs.Decimals.{number_of-decimal, is_word-decimal}
 use Rattle.line_text.proofs.ReadBack.{Stands-written, Stands-comments, is_closed-unlines}

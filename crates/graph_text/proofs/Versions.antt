@@ -2,9 +2,7 @@
 -- the same to each line, so by induction over the lines the same comes of the text. A header of
 -- version 2 is none of version 1; after it names are kept, so that no graph without names comes
 -- of the text.
-use Rattle.std.proofs.Common.{◌≡◌, ◌↔◌, ℕ, ◌+◌, ◌==◌, ◌||◌, not, Bool, true, false, cond, codes, List, [], ◌∷◌, length, Option, Some, None, is_some, Result, Ok, Err, IfOk, inl, inr, sym, ◌∙◌, ap, subst, arith, bytes_eq}
-use Rattle.std.specs.Result.{result_map_both}
-use Rattle.counting.proofs.Common.{cases_Bool, and_parts, bytes_eq-Decides}
+use Rattle.counting.proofs.Common.{◌≡◌, ◌↔◌, ℕ, ◌+◌, ◌==◌, ◌||◌, not, Bool, true, false, cond, codes, List, [], ◌∷◌, length, Option, Some, None, is_some, Result, Ok, Err, IfOk, inl, inr, sym, ◌∙◌, ap, subst, arith, bytes_eq, result_map_both, cases_Bool, and_parts, bytes_eq-Decides}
 use Rattle.line_text.specs.Common.{checked, Stands, FirstFault, lines_of, go_on, reading_from, SignificantLine, significant_lines_of, has_form, begin_with}
 use Rattle.line_text.proofs.ExactlyOne.{Stands-reading_of, Stands-from_reading, FirstFault-reading_of, FirstFault-from_reading}
 use Rattle.graph_core.proofs.Common.{Graph}

@@ -1,7 +1,6 @@
 -- The test of a range decides whether a number is in it, and so for all numbers of a list. Idea:
 -- both tests compare with 0 and with n; an induction carries them along a list.
-use Rattle.std.proofs.Common.{◌≡◌, ◌||◌, ◌<◌, ◌^◌, ℕ, suc, List, [], ◌∷◌, All, false, refl, ap₂, arith}
-use Rattle.counting.proofs.Common.{list_any, or_parts, nat_tests, All-nil, All-cons, Within}
+use Rattle.counting.proofs.Common.{◌≡◌, ◌||◌, ◌<◌, ◌^◌, ℕ, suc, List, [], ◌∷◌, All, false, refl, ap₂, arith, list_any, or_parts, nat_tests, All-nil, All-cons, Within}
 use Rattle.line_text.specs.Common.{is_out_of_range}
 
 pub in_range : (n v : ℕ) → is_out_of_range n v ≡ false → Within n v

@@ -1,7 +1,6 @@
 -- The path of an outer vertex to a set that can be shrunk: it avoids the set, or comes to it at the
 -- base and leaves it for good some pairs later. By induction along the path up.
-use Rattle.std.proofs.Common.{◌≡◌, ◌≢◌, ℕ, zero, suc, ◌+◌, ◌-◌, ◌≤◌, ◌<◌, ◌⊎◌, true, false, refl, sym, ap, ◌∙◌, arith, not, inl, inr, subst}
-use Rattle.counting.proofs.Common.{both_ways, cases_Bool, cases_eq, cases_lt, false_from_ne_true, odd-double, Within, Set}
+use Rattle.counting.proofs.Common.{◌≡◌, ◌≢◌, ℕ, zero, suc, ◌+◌, ◌-◌, ◌≤◌, ◌<◌, ◌⊎◌, true, false, refl, sym, ap, ◌∙◌, arith, not, inl, inr, subst, both_ways, cases_Bool, cases_eq, cases_lt, false_from_ne_true, odd-double, Within, Set}
 use Rattle.match_search.proofs.MatePairs.{mate_back}
 use Rattle.match_search.proofs.ShrunkForests.{ShrunkForest, WalksUp}
 

@@ -1,7 +1,6 @@
 -- A set with one more member. Idea: the disjunction with "v is w" and the set changed at v to true
 -- agree at each w, by the two values of that test.
-use Rattle.std.proofs.Common.{◌≡◌, ℕ, true, ◌==◌, ◌||◌, arith}
-use Rattle.counting.proofs.Common.{Set, put}
+use Rattle.counting.proofs.Common.{◌≡◌, ℕ, true, ◌==◌, ◌||◌, arith, Set, put}
 
 -- a set with v added is the set put true at v
 pub with_put : (x : Set) (v w : ℕ) → (x w || (v == w)) ≡ put x v true w

@@ -1,7 +1,6 @@
 -- The mates that a pass over marked edges names are those of the matching. Idea: a vertex without a
 -- named mate meets no marked edge, and any other is joined to its mate by the edge that named it.
-use Rattle.std.proofs.Common.{◌≡◌, ℕ, ◌+◌, ◌-◌, ap, ◌∙◌, arith, List, length, inl, inr}
-use Rattle.counting.proofs.Common.{Set}
+use Rattle.counting.proofs.Common.{◌≡◌, ℕ, ◌+◌, ◌-◌, ap, ◌∙◌, arith, List, length, inl, inr, Set}
 use Rattle.graph_core.proofs.Common.{IsMatching, graph_of}
 use Rattle.graph_core.specs.declared.ends.Ends.{Ends}
 use Rattle.match_search.specs.Common.{HasMates, NamesMates, numbers, end_a, end_b}

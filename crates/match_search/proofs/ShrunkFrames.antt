@@ -1,7 +1,6 @@
 -- A set C is shrunk to one vertex z of it. Do labellings and frames of the shrunk graph go up?
 -- Yes: each vertex of C gets the label of z, and is outer.
-use Rattle.std.proofs.Common.{◌≡◌, ℕ, suc, ◌+◌, ◌*◌, ◌≤◌, Bool, true, false, cond, ◌==◌, refl, sym, ap, ap₂, ◌∙◌, arith, ◌||◌, not, eq-eqb, ne_eqb, inl, inr, nat_lt, List}
-use Rattle.counting.proofs.Common.{cases_Bool, odd-add, odd-double, total_add, total_at, total_congr, or_false, or_true, Within, bit, count, is_odd, total, Set, complement, union}
+use Rattle.counting.proofs.Common.{◌≡◌, ℕ, suc, ◌+◌, ◌*◌, ◌≤◌, Bool, true, false, cond, ◌==◌, refl, sym, ap, ap₂, ◌∙◌, arith, ◌||◌, not, eq-eqb, ne_eqb, inl, inr, nat_lt, List, cases_Bool, odd-add, odd-double, total_add, total_at, total_congr, or_false, or_true, Within, bit, count, is_odd, total, Set, complement, union}
 use Rattle.graph_core.proofs.Common.{Graph, IsGraph, degree, first_end, second_end, size, HasEnds, with_ends, IsMatching}
 use Rattle.match_search.specs.Common.{Frame, IsCertificate, IsOddLabelling, IsNearPerfect, IsShrunk, shrunk_vertex, shrunk_removed}
 use Rattle.match_search.proofs.Certificates.{certificate_tight}

@@ -1,9 +1,7 @@
 -- The underlying simple graph, and its graph6 text. Idea: of the first k edges those are kept whose
 -- ends no kept edge joins, so the kept pairs are distinct, and they join the same vertices as the
 -- first k edges do. A graph6 text depends only on the order and on the adjacent pairs.
-use Rattle.std.proofs.Common.{◌≡◌, ℕ, suc, ◌+◌, ◌≤◌, ◌==◌, ◌&&◌, ◌||◌, Bool, true, false, cond, List, [], ◌∷◌, ◌++◌, map, refl, sym, subst, ap, ap₂, ◌∙◌, arith, ◌⊎◌, inl, inr}
-use Rattle.std.proofs.lemmas.Bool.{false≢true}
-use Rattle.counting.proofs.Common.{nat_tests, length-append, list_any-append, list_any, none, some}
+use Rattle.counting.proofs.Common.{◌≡◌, ℕ, suc, ◌+◌, ◌≤◌, ◌==◌, ◌&&◌, ◌||◌, Bool, true, false, cond, List, [], ◌∷◌, ◌++◌, map, refl, sym, subst, ap, ap₂, ◌∙◌, arith, ◌⊎◌, inl, inr, false≢true, nat_tests, length-append, list_any-append, list_any, none, some}
 use Rattle.graph_core.proofs.Common.{Graph, size, first_end, second_end, has_ends, with_edge, adjacent, adjacent-ends, joins}
 use Rattle.graph6_text.specs.Common.{bytes_of, column_pairs, adjacency_bits, graph6_of, size_of}
 use Rattle.graph6_text.proofs.DistinctPairs.{Each, Apart, AreDistinct, distinct-append, joins-back, simple_from_distinct}

@@ -1,7 +1,6 @@
 -- Each two derivations of a graph have as many leaves, as many bricks and as many braces, since
 -- their leaves are paired (Lovász 1987).
-use Rattle.std.proofs.Common.{List, [], ap, arith, get_or, inl, inr, length, not, subst, sym, ℕ, ◌-◌, ◌==◌, ◌∙◌, ◌≡◌, count_by}
-use Rattle.counting.proofs.Common.{Within, count}
+use Rattle.counting.proofs.Common.{List, [], ap, arith, get_or, inl, inr, length, not, subst, sym, ℕ, ◌-◌, ◌==◌, ◌∙◌, ◌≡◌, count_by, Within, count}
 use Rattle.graph_core.proofs.Common.{Graph, IsGraph}
 use Rattle.tree_core.proofs.Common.{partitions-leaves, IsDerivation, PlainLeafMap, leaf_at, map_at, leaves, Shape, AreLeafKinds, is_brick, kind_at, tally_of}
 use Rattle.move_laws.proofs.Uniqueness.{pairing_law}

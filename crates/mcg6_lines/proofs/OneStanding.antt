@@ -1,8 +1,7 @@
 -- The words on how a graph stands are one: its first reasons differ at most in the Berge set, its
 -- maximum matchings miss as many vertices, no reason is one of a covered graph, a kind without its
 -- shore is one, and so are the numbers of bricks and braces.
-use Rattle.std.proofs.Common.{◌≡◌, ◌∙◌, List, ℕ, ◌++◌, Bool, refl, sym, codes, arith, decimal}
-use Rattle.counting.proofs.Common.{same_tests, mem}
+use Rattle.counting.proofs.Common.{◌≡◌, ◌∙◌, List, ℕ, ◌++◌, Bool, refl, sym, codes, arith, decimal, same_tests, mem}
 use Rattle.graph_core.proofs.Common.{reason-uncovered, Graph, IsMultigraph, IsReason, reason_of}
 use Rattle.graph_core.specs.declared.verdict.Kind.{Kind}
 use Rattle.graph_core.specs.declared.verdict.Kind.TheVariants.{Brace, Brick, Composite}

@@ -1,9 +1,7 @@
 -- How many trees can an order pick? One: at each node it picks one place, and there stands one
 -- candidate. The kinds of the leaves are determined, since a quotient is bipartite or not, and so
 -- are their counts.
-use Rattle.std.proofs.Common.{◌≡◌, ◌∙◌, ℕ, ◌+◌, ◌-◌, ◌<◌, List, length, map, Option, Some, None, refl, sym, subst, ap, arith, slice_get, option_map, suc, get_or, ext_get_or}
-use Rattle.counting.proofs.Common.{cases_lt, length-map, none-some, Within}
-use Rattle.std.proofs.lemmas.Option.{slice_get-map}
+use Rattle.counting.proofs.Common.{◌≡◌, ◌∙◌, ℕ, ◌+◌, ◌-◌, ◌<◌, List, length, map, Option, Some, None, refl, sym, subst, ap, arith, slice_get, option_map, suc, get_or, ext_get_or, slice_get-map, cases_lt, length-map, none-some, Within}
 use Rattle.graph_core.proofs.Common.{Graph}
 use Rattle.tight_cuts.specs.Common.{Candidate, candidates_at, candidate_of}
 use Rattle.tight_cuts.specs.declared.candidate.Candidate.{Candidate as StoredCandidate}

@@ -1,7 +1,6 @@
 -- A quotient is a simple graph: its edges are pairs in rising order, and none of them stands twice.
 -- Idea: an edge has its lesser end first, so edges with the same ends are one pair, listed once.
-use Rattle.std.proofs.Common.{List, arith, ℕ, ◌≡◌}
-use Rattle.counting.proofs.Common.{cases_order, Within}
+use Rattle.counting.proofs.Common.{List, arith, ℕ, ◌≡◌, cases_order, Within}
 use Rattle.graph_core.proofs.Common.{quotient_edge, has_ends-cases, Graph, first_end, second_end, size, contracted, quotient, IsSimple}
 use Rattle.contraction.proofs.JoinedPairs.{joined-once}
 use Rattle.contraction.proofs.QuotientValues.{joined-quotient}

@@ -1,11 +1,7 @@
 -- The word of a path writes this path, and the word of a set its vertices: what comes between two
 -- commas is the decimal of one vertex.
-use Rattle.std.proofs.Common.{◌≡◌, ◌≤◌, ◌<◌, ◌||◌, ◌^◌, not, nat_le, ℕ, suc, List, [], ◌∷◌, Bool, length, map, true, false, refl, ◌∙◌, ap, arith, All, decimal}
+use Rattle.counting.proofs.Common.{◌≡◌, ◌≤◌, ◌<◌, ◌||◌, ◌^◌, not, nat_le, ℕ, suc, List, [], ◌∷◌, Bool, length, map, true, false, refl, ◌∙◌, ap, arith, All, decimal, decimal_nonempty, list_all-append, slice_split_at, slice_split_none, list_all, and_from, and_parts, not-true, le-leb, nat_tests, length-map, length-append, append-nil, All-nil, All-cons}
 use Rattle.std.specs.List.{All as AllOf, slice_split}
-use Rattle.counting.proofs.Common.{list_all, and_from, and_parts, not-true, le-leb, nat_tests, length-map, length-append, append-nil, All-nil, All-cons}
-use Rattle.std.proofs.lemmas.Fmt.{decimal_nonempty}
-use Rattle.std.proofs.lemmas.List.Folds.{list_all-append}
-use Rattle.std.proofs.lemmas.List.Splits.{slice_split_at, slice_split_none}
 use Rattle.line_text.specs.Common.{is_line_feed, is_blank, is_word}
 use Rattle.line_text.proofs.Decimals.{digits-decimal, is_word-decimal, list_all-digits, nonempty}
 use Rattle.tree_core.specs.declared.path.Side.{Side}

@@ -1,9 +1,7 @@
 -- What is read of a text can be written again. Along the lines of a text the moves read so far keep
 -- the limits, and their sets are nonempty, increasing and within 1 to n: each line keeps this,
 -- since it passed the tests of the table.
-use Rattle.std.proofs.Common.{◌≡◌, ◌≤◌, ◌<◌, ◌&&◌, ◌||◌, ◌^◌, codes, not, nat_le, if◌then◌else◌, ℕ, List, [], ◌∷◌, ◌++◌, Bool, length, true, false, Option, Some, None, Result, Ok, Err, IfOk, refl, sym, ◌∙◌, ap, subst, arith}
-use Rattle.counting.proofs.Common.{AllByRecursion, list_all, list_any, and_parts, or_parts, not-false, nat_tests, length-map, length-append}
-use Rattle.std.proofs.lemmas.List.Splits.{length-slice_split}
+use Rattle.counting.proofs.Common.{◌≡◌, ◌≤◌, ◌<◌, ◌&&◌, ◌||◌, ◌^◌, codes, not, nat_le, if◌then◌else◌, ℕ, List, [], ◌∷◌, ◌++◌, Bool, length, true, false, Option, Some, None, Result, Ok, Err, IfOk, refl, sym, ◌∙◌, ap, subst, arith, length-slice_split, AllByRecursion, list_all, list_any, and_parts, or_parts, not-false, nat_tests, length-map, length-append}
 use Rattle.line_text.specs.Common.{Begins, Stands, finish, has_form, word_at, value_of, is_out_of_range}
 use Rattle.line_text.proofs.Tables.{all_passed, no_value, value_or}
 use Rattle.line_text.specs.declared.faults.FaultKind.{FaultKind}

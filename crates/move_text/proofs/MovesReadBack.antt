@@ -1,7 +1,6 @@
 -- The text written for moves is read as these moves. The header leads to no moves, and the line of
 -- a move adds it to the moves before, since no test of the table applies.
-use Rattle.std.proofs.Common.{◌≡◌, ◌+◌, ◌≤◌, ◌<◌, ◌^◌, codes, nat_le, ℕ, List, [], ◌∷◌, ◌++◌, All, length, map, true, false, Some, Ok, refl, ap, subst, arith, append_assoc}
-use Rattle.counting.proofs.Common.{AllByRecursion, list_all, list_any, nat_tests, append-nil, length-append, Within}
+use Rattle.counting.proofs.Common.{◌≡◌, ◌+◌, ◌≤◌, ◌<◌, ◌^◌, codes, nat_le, ℕ, List, [], ◌∷◌, ◌++◌, All, length, map, true, false, Some, Ok, refl, ap, subst, arith, append_assoc, AllByRecursion, list_all, list_any, nat_tests, append-nil, length-append, Within}
 use Rattle.line_text.specs.Common.{Begins, Stands, has_form, is_word, IsSignificant, is_number, is_out_of_range}
 use Rattle.line_text.proofs.Decimals.{number_of-decimal, is_word-decimal, numbers-decimal, values-decimal}
 use Rattle.line_text.proofs.ReadBack.{Stands-written}

@@ -1,8 +1,7 @@
 -- The first cut that classes or cut pairs give. If no class gives a cut, the graph is bicritical,
 -- since a class of two vertices gives a cut; a bicritical graph in which no cut pair gives a cut
 -- has no cut pair.
-use Rattle.std.proofs.Common.{◌≡◌, ℕ, ◌≤◌, true, ◌==◌, refl, sym, ap, ◌∙◌, ◌⊎◌, inl, inr, List, [], ◌∷◌, ◌++◌, length, Option, Some, None, arith, eqb-true, subst, ◌↔◌, All, slice_get}
-use Rattle.counting.proofs.Common.{none-some, same_Some, All-head, Set}
+use Rattle.counting.proofs.Common.{◌≡◌, ℕ, ◌≤◌, true, ◌==◌, refl, sym, ap, ◌∙◌, ◌⊎◌, inl, inr, List, [], ◌∷◌, ◌++◌, length, Option, Some, None, arith, eqb-true, subst, ◌↔◌, All, slice_get, none-some, same_Some, All-head, Set}
 use Rattle.graph_core.proofs.Common.{IsCovered, Graph, IsBipartite, IsMultigraph, IsBicritical, IsCutPair, equivalent_pair, IsNontrivial, IsTight}
 use Rattle.barrier_kit.proofs.Common.{barrier_cuts, four_vertices, no_sides, bicritical_no_cuts, some_cut}
 use Rattle.brick_kit.proofs.Bricks.{brick_or_not}

@@ -1,10 +1,6 @@
 -- The lines after the text of a decomposition, and those that name vertices after it, are
 -- comments: each is written of words, the first of which is `c`.
-use Rattle.std.proofs.Common.{◌≡◌, ℕ, zero, suc, ◌-◌, ◌<◌, ◌≤◌, ◌^◌, ◌==◌, not, Bool, true, List, [], ◌∷◌, ◌++◌, length, map, get_or, All, ap, refl, subst, append_assoc, arith, codes, eq-eqb, decimal}
-use Rattle.counting.proofs.Common.{AllByRecursion, cases_lt, or_left, or_right, All-nil, rising_list-rises, Within, last_of, mem}
-use Rattle.std.proofs.lemmas.List.Elements.{All-get_or, All-from_get_or}
-use Rattle.std.proofs.lemmas.List.Sums.{count_by-le-length}
-use Rattle.std.proofs.Math.ListN.{get_or-eq_default}
+use Rattle.counting.proofs.Common.{◌≡◌, ℕ, zero, suc, ◌-◌, ◌<◌, ◌≤◌, ◌^◌, ◌==◌, not, Bool, true, List, [], ◌∷◌, ◌++◌, length, map, get_or, All, ap, refl, subst, append_assoc, arith, codes, eq-eqb, decimal, All-get_or, All-from_get_or, count_by-le-length, get_or-eq_default, AllByRecursion, cases_lt, or_left, or_right, All-nil, rising_list-rises, Within, last_of, mem}
 use Rattle.graph_core.proofs.Common.{Graph, size, first_end, second_end, has_ends, IsPartition, block, contracted, quotient, remembered}
 use Rattle.graph_text.proofs.NamedReadBack.{is_word-name}
 use Rattle.graph_text.specs.Common.{AreNames, is_name}

@@ -1,7 +1,6 @@
 -- Comments after a text: they join, a line of words that begin with `c` is one, and a text that
 -- stands for a value stands for it with comments after it.
-use Rattle.std.proofs.Common.{◌≡◌, ◌∙◌, ℕ, List, [], ◌∷◌, ◌++◌, true, ap, sym, subst, append_assoc}
-use Rattle.counting.proofs.Common.{AllByRecursion, append-nil}
+use Rattle.counting.proofs.Common.{◌≡◌, ◌∙◌, ℕ, List, [], ◌∷◌, ◌++◌, true, ap, sym, subst, append_assoc, AllByRecursion, append-nil}
 use Rattle.line_text.specs.Common.{Rules, Stands, is_closed, IsComment, written}
 use Rattle.line_text.proofs.ReadBack.{AreSkipped-written, Stands-comments}
 use Rattle.line_text.proofs.WrittenLines.{written-append}

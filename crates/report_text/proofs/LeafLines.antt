@@ -1,8 +1,6 @@
 -- The lines of the leaves grow by those of one leaf: those before it give their own kinds. By
 -- induction over the leaves, and the items before stay when a kind is appended.
-use Rattle.std.proofs.Common.{◌≡◌, ◌≤◌, ◌<◌, ℕ, zero, suc, ◌+◌, ◌-◌, ◌∙◌, List, [], ◌∷◌, ◌++◌, length, map, ap, refl, sym, get_or, slice_get, Some, arith}
-use Rattle.std.proofs.Math.ListN.{get_or-append}
-use Rattle.counting.proofs.Common.{get_or-append_seam, length-map}
+use Rattle.counting.proofs.Common.{◌≡◌, ◌≤◌, ◌<◌, ℕ, zero, suc, ◌+◌, ◌-◌, ◌∙◌, List, [], ◌∷◌, ◌++◌, length, map, ap, refl, sym, get_or, slice_get, Some, arith, get_or-append, get_or-append_seam, length-map}
 use Rattle.contraction.specs.Partition.{PartitionValue}
 use Rattle.graph_core.proofs.Common.{Graph}
 use Rattle.report_text.specs.Common.{numbered_leaf_lines, leaf_text}

@@ -1,7 +1,6 @@
 -- Steps of the loops that write the lines of a leaf, and of the leaves: what is written and one
 -- more line are the lines with one more.
-use Rattle.std.proofs.Common.{◌≡◌, ℕ, suc, ◌-◌, ◌∙◌, List, [], ◌++◌, length, ap, subst, append_assoc, slice_get, get_or, Some, arith, codes}
-use Rattle.counting.proofs.Common.{get_or_from_slice_get, rising_list, Within}
+use Rattle.counting.proofs.Common.{◌≡◌, ℕ, suc, ◌-◌, ◌∙◌, List, [], ◌++◌, length, ap, subst, append_assoc, slice_get, get_or, Some, arith, codes, get_or_from_slice_get, rising_list, Within}
 use Rattle.graph_core.proofs.Common.{Graph, contracted, contracted-size, first_end, second_end, has_ends, size, quotient}
 use Rattle.report_text.specs.Common.{list_line, adjacent_line, adjacent_lines, block_lines, numbered_leaf_line, numbered_leaf_lines, leaf_text, name_at}
 use Rattle.tree_core.proofs.Common.{leaf_at, kind_at}

@@ -1,8 +1,7 @@
 -- For every multigraph there are right lines of `analyse`: each of them is a test, and so each
 -- list is a rising list. The kind of a covered graph is composite by its first candidate, and
 -- if there is none it is brace or brick by its sides.
-use Rattle.std.proofs.Common.{◌≡◌, ◌⊎◌, ◌↔◌, ℕ, Bool, true, false, List, [], ◌∷◌, Option, Some, None, option_map, refl, sym, ◌∙◌, arith, inl, inr, All, IsTrue}
-use Rattle.counting.proofs.Common.{true≢false, mem-within, mem-rising_list, rising_list-rises, Within, count, Lists, rising_list, Set, none}
+use Rattle.counting.proofs.Common.{◌≡◌, ◌⊎◌, ◌↔◌, ℕ, Bool, true, false, List, [], ◌∷◌, Option, Some, None, option_map, refl, sym, ◌∙◌, arith, inl, inr, All, IsTrue, true≢false, mem-within, mem-rising_list, rising_list-rises, Within, count, Lists, rising_list, Set, none}
 use Rattle.theorems.proofs.Quotients.{bipartite-or}
 use Rattle.graph_core.proofs.Common.{is_allowed_found, is_allowed_says, maximum_exists, component_count, IsCovered, InA, InC, InD, Graph, IsBipartite, IsMultigraph, size, Allowed, is_allowed, missed_count, classes, cut_pair, equivalent_pair, HasOnlyTrivialTightCuts, pair_of, IsVerdict}
 use Rattle.graph_core.specs.declared.ends.Ends.{Ends}

@@ -1,8 +1,6 @@
 -- A bipartite graph of which each vertex is at an edge is matching covered if and only if single
 -- ears lead from an edge to all edges. An ear is odd, so its ends are on opposite sides and serve.
-use Rattle.std.proofs.Common.{◌≡◌, ℕ, true, not, ◌==◌, ap, ◌∙◌, List, [], ◌∷◌, ◌↔◌}
-use Rattle.std.specs.List.{AllByRecursion}
-use Rattle.counting.proofs.Common.{Within, Set, everything, singleton}
+use Rattle.counting.proofs.Common.{◌≡◌, ℕ, true, not, ◌==◌, ap, ◌∙◌, List, [], ◌∷◌, ◌↔◌, AllByRecursion, Within, Set, everything, singleton}
 use Rattle.ear_core.proofs.BipartiteStages.{last_vertex-side}
 use Rattle.ear_core.proofs.FirstStage.{first-stage}
 use Rattle.ear_core.proofs.Rests.{covered-meets}

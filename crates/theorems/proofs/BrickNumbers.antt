@@ -2,8 +2,7 @@
 -- Idea: any two derivations count alike, since their leaves are paired; a derivation that begins
 -- with a given cut counts what the trees of the two sides count; and all leaves are bipartite if
 -- and only if the graph is, by induction on the tree.
-use Rattle.std.proofs.Common.{◌≡◌, ◌∙◌, ◌↔◌, ℕ, ◌+◌, ◌*◌, ◌≤◌, List, refl, sym, ap, arith}
-use Rattle.counting.proofs.Common.{AllByRecursion, mem}
+use Rattle.counting.proofs.Common.{◌≡◌, ◌∙◌, ◌↔◌, ℕ, ◌+◌, ◌*◌, ◌≤◌, List, refl, sym, ap, arith, AllByRecursion, mem}
 use Rattle.mcg6_lines.proofs.Counts.{same_counts}
 use Rattle.graph_core.proofs.Common.{complement_of-rises, mem-complement_of, complement-tight, singles-partition, IsCovered, Graph, IsBipartite, IsGraph, IsMultigraph, IsPartition, complement_of, singles, quotient}
 use Rattle.mcg6_lines.specs.Standings.{IsCounted}

@@ -1,8 +1,7 @@
 -- The orders of the commands always pick. Idea: the first place, the last and a remainder are
 -- places; and a nonempty list has a first place with the least difference of the sides, by
 -- induction on the list.
-use Rattle.std.proofs.Common.{[], ◌≡◌, ℕ, zero, suc, ◌-◌, ◌<◌, ◌≤◌, List, ◌∷◌, length, map, inl, inr, refl, ap, ap₂, arith}
-use Rattle.counting.proofs.Common.{cases_lt, length-map}
+use Rattle.counting.proofs.Common.{[], ◌≡◌, ℕ, zero, suc, ◌-◌, ◌<◌, ◌≤◌, List, ◌∷◌, length, map, inl, inr, refl, ap, ap₂, arith, cases_lt, length-map}
 use Rattle.decomposer.specs.Common.{NamedPicks, ScriptPicks, IsMostBalanced, PicksBalanced, gap}
 use Rattle.decomposer.specs.declared.orders.NamedOrder.{NamedOrder}
 use Rattle.decomposer.specs.declared.orders.NamedOrder.TheVariants.{First, Last, Balanced}

@@ -1,8 +1,6 @@
 -- From a conformal stage of a matching covered graph ears lead on to the whole graph: a perfect
 -- matching of the stage and one of the rest are kept together.
-use Rattle.std.proofs.Common.{◌≡◌, ℕ, ◌+◌, Bool, true, false, cond, ◌==◌, sym, arith, eq-eqb, inl, inr, List, subst}
-use Rattle.std.specs.List.{AllByRecursion}
-use Rattle.counting.proofs.Common.{or_left, or_right, true≢false, count, Set, complement, none, union}
+use Rattle.counting.proofs.Common.{◌≡◌, ℕ, ◌+◌, Bool, true, false, cond, ◌==◌, sym, arith, eq-eqb, inl, inr, List, subst, AllByRecursion, or_left, or_right, true≢false, count, Set, complement, none, union}
 use Rattle.ear_core.proofs.AddedEars.{but_none}
 use Rattle.ear_core.proofs.EngineGraphs.{ends-met}
 use Rattle.ear_core.proofs.Mates.{row-is}

@@ -2,9 +2,7 @@
 -- matching covered. A common vertex is an end of both. A perfect matching of the next stage with
 -- the edge of the first ear there misses this vertex on the old stage, and besides at most the two
 -- other ends; by parity it misses exactly one more, so that one of the ears alone serves.
-use Rattle.std.proofs.Common.{◌≡◌, ◌≢◌, ℕ, ◌+◌, ◌*◌, ◌≤◌, Bool, true, false, ◌==◌, ◌&&◌, refl, sym, ap, ◌∙◌, arith, eq-eqb, ne_eqb, eqb-true, subst, ◌⊎◌, inl, inr, List, [], ◌∷◌}
-use Rattle.std.specs.List.{AllByRecursion}
-use Rattle.counting.proofs.Common.{and_from, and_parts, both_ways, cases_Bool, cases_eq, or_cases, or_comm, or_left, or_parts, or_right, total_add, total_at, total_congr, Within, bit, mem, pair_set, put, singleton, total, Set}
+use Rattle.counting.proofs.Common.{◌≡◌, ◌≢◌, ℕ, ◌+◌, ◌*◌, ◌≤◌, Bool, true, false, ◌==◌, ◌&&◌, refl, sym, ap, ◌∙◌, arith, eq-eqb, ne_eqb, eqb-true, subst, ◌⊎◌, inl, inr, List, [], ◌∷◌, AllByRecursion, and_from, and_parts, both_ways, cases_Bool, cases_eq, or_cases, or_comm, or_left, or_parts, or_right, total_add, total_at, total_congr, Within, bit, mem, pair_set, put, singleton, total, Set}
 use Rattle.graph_core.proofs.Common.{degree_put, edge_at, ends_le_degree, ends_of, sum_degrees, Graph, IsGraph, degree, first_end, second_end, size}
 use Rattle.ear_core.proofs.AddedEars.{odds_at}
 use Rattle.ear_core.proofs.LoneMatchings.{ends-differ}

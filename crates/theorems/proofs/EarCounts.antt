@@ -2,8 +2,7 @@
 -- Idea: an ear with k edges has k + 1 vertices, of which two are on the stage; so with each ear
 -- the edges less the vertices grow by one, from one edge with two vertices to all edges with all
 -- vertices that they meet.
-use Rattle.std.proofs.Common.{[], ◌≡◌, ℕ, suc, ◌+◌, ◌≤◌, ◌≢◌, Bool, true, false, ◌==◌, ◌&&◌, ◌||◌, not, refl, sym, ap, ap₂, ◌∙◌, arith, eq-eqb, ne_eqb, eqb-true, inl, inr, List, ◌∷◌, length, ◌⊎◌, subst}
-use Rattle.counting.proofs.Common.{cases_eq, cases_Bool, both_ways, true≢false, or_left, or_right, count_congr, count_of_one, times_mem, total_add, total_congr, total_ones, total_zero, Within, bit, count, total, mem, times, Set, everything, singleton}
+use Rattle.counting.proofs.Common.{[], ◌≡◌, ℕ, suc, ◌+◌, ◌≤◌, ◌≢◌, Bool, true, false, ◌==◌, ◌&&◌, ◌||◌, not, refl, sym, ap, ap₂, ◌∙◌, arith, eq-eqb, ne_eqb, eqb-true, inl, inr, List, ◌∷◌, length, ◌⊎◌, subst, cases_eq, cases_Bool, both_ways, true≢false, or_left, or_right, count_congr, count_of_one, times_mem, total_add, total_congr, total_ones, total_zero, Within, bit, count, total, mem, times, Set, everything, singleton}
 use Rattle.barrier_kit.proofs.Common.{cut_edge}
 use Rattle.ear_core.proofs.AddedEars.{evens_at, new-met, odds_at}
 use Rattle.ear_core.proofs.EngineGraphs.{ends-met}

@@ -2,8 +2,7 @@
 -- Idea: from a vertex that the one matching leads out of the stage the two matchings are followed
 -- in turn; the vertices passed hold their mates, so a new one comes each time, and the path ends
 -- on the stage.
-use Rattle.std.proofs.Common.{[], ◌≡◌, ℕ, zero, suc, ◌+◌, ◌≤◌, ◌<◌, true, false, not, ◌&&◌, refl, sym, ap, ◌∙◌, arith, inl, inr, List, ◌∷◌, subst, Bool}
-use Rattle.counting.proofs.Common.{and_parts, both_ways, cases_Bool, cases_eq, false_from_ne_true, or_left, or_right, true≢false, count_more, count_member, count_zero, mem-rising_list, Within, count, mem, rising_list, Set, complement, none}
+use Rattle.counting.proofs.Common.{[], ◌≡◌, ℕ, zero, suc, ◌+◌, ◌≤◌, ◌<◌, true, false, not, ◌&&◌, refl, sym, ap, ◌∙◌, arith, inl, inr, List, ◌∷◌, subst, Bool, and_parts, both_ways, cases_Bool, cases_eq, false_from_ne_true, or_left, or_right, true≢false, count_more, count_member, count_zero, mem-rising_list, Within, count, mem, rising_list, Set, complement, none}
 use Rattle.ear_core.proofs.MatedPaths.{fewer_left, next_is_clear, next_within, passed_too, path_ends, path_goes_on}
 use Rattle.ear_core.proofs.Mates.{AreMates}
 use Rattle.ear_core.proofs.Rounds.{left-clear, none-left, one-more, passed-too, path-mated, with_trail}

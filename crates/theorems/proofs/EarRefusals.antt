@@ -1,8 +1,7 @@
 -- Each list of ears of a graph is an ear list, or has a first refusal. Each rule is decided: the
 -- tests compute, and whether the graph of a stage has a perfect matching with an edge is asked of
 -- the listed edges.
-use Rattle.std.proofs.Common.{◌≡◌, ◌⊎◌, ◌↔◌, ℕ, ◌+◌, true, List, [], ◌∷◌, Option, Some, None, refl, inl, inr}
-use Rattle.counting.proofs.Common.{all_or_least, both_ways, cases_Bool, Within, Set, pair_set, singleton}
+use Rattle.counting.proofs.Common.{◌≡◌, ◌⊎◌, ◌↔◌, ℕ, ◌+◌, true, List, [], ◌∷◌, Option, Some, None, refl, inl, inr, all_or_least, both_ways, cases_Bool, Within, Set, pair_set, singleton}
 use Rattle.barrier_kit.proofs.Common.{perfect_or_not}
 use Rattle.graph_core.proofs.Common.{Graph, IsMultigraph, first_end, second_end, size, HasPerfect}
 use Rattle.ear_core.specs.Common.{AreSteps, IsEarList, PlainEars, PlainStep, next_stage, PlainWhy, ends_early, stage_not_covered, IsFirstRefusal, IsLeastUnallowed, IsRefused, step_fault, AllowedBy, IsStage}

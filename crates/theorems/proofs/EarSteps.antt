@@ -2,8 +2,7 @@
 -- exists.
 -- Idea: one perfect matching is kept; another one that holds an edge leading out of the stage
 -- makes ears with it, of which one or two serve (the two-ear theorem).
-use Rattle.std.proofs.Common.{[], ◌≡◌, ℕ, zero, suc, ◌+◌, ◌<◌, ◌⊎◌, true, not, ◌&&◌, ◌||◌, refl, arith, inl, inr, List, ◌∷◌, false}
-use Rattle.counting.proofs.Common.{and_parts, cases_eq, not-true, count_member, count_zero, AllByRecursion, Within, count, mem, Set, complement, none, singleton, union}
+use Rattle.counting.proofs.Common.{[], ◌≡◌, ℕ, zero, suc, ◌+◌, ◌<◌, ◌⊎◌, true, not, ◌&&◌, ◌||◌, refl, arith, inl, inr, List, ◌∷◌, false, and_parts, cases_eq, not-true, count_member, count_zero, AllByRecursion, Within, count, mem, Set, complement, none, singleton, union}
 use Rattle.barrier_kit.proofs.Common.{perfect_or_not}
 use Rattle.ear_core.proofs.BipartiteStages.{bipartite-found}
 use Rattle.ear_core.proofs.EngineGraphs.{served_listed}

@@ -2,8 +2,7 @@
 -- value, and the other reads gave the other files. The files are named by their places, so that a
 -- name finds no later file; a read that failed gave no file, and one of a file that is too long one
 -- that is not read.
-use Rattle.std.proofs.Common.{◌≡◌, ◌<◌, ℕ, ◌+◌, false, cond, List, [], ◌∷◌, length, Option, Some, None, Result, Ok, Err, sym, ap, ◌∙◌, arith, lt-ltb, bytes_eq}
-use Rattle.counting.proofs.Common.{nat_tests}
+use Rattle.counting.proofs.Common.{◌≡◌, ◌<◌, ℕ, ◌+◌, false, cond, List, [], ◌∷◌, length, Option, Some, None, Result, Ok, Err, sym, ap, ◌∙◌, arith, lt-ltb, bytes_eq, nat_tests}
 use Rattle.outside.specs.Common.{Answer, AnswersInTurn, NamedFile, file_named, most_bytes}
 use Rattle.outside.specs.declared.shelf.ShelfFault.TheVariants.{Failed, TooLong, Memory}
 use Rattle.line_text.specs.declared.faults.FaultKind.{FaultKind}

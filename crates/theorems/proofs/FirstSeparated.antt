@@ -1,8 +1,7 @@
 -- The pair that the third part takes at an edge is the first that a tight set separates: the search
 -- takes the first pair of a list that passes its test, the list is in lexicographic order, and
 -- the test says what the words say.
-use Rattle.std.proofs.Common.{◌≡◌, ℕ, ◌⊎◌, true, Option, Some, None, refl, ap, inl, inr, arith}
-use Rattle.counting.proofs.Common.{both_ways, false_from_ne_true, Within, ComesBefore}
+use Rattle.counting.proofs.Common.{◌≡◌, ℕ, ◌⊎◌, true, Option, Some, None, refl, ap, inl, inr, arith, both_ways, false_from_ne_true, Within, ComesBefore}
 use Rattle.graph_core.proofs.Common.{Graph, IsGraph, size}
 use Rattle.tight_cuts.proofs.EdgeLoop.{first_pair, no_pair}
 use Rattle.tight_cuts.proofs.FirstPairs.{before_first, no_first}

@@ -1,9 +1,8 @@
 -- An ear whose ends lie on opposite sides of a bipartite stage serves.
 -- Idea: the graph of the stage has a perfect matching off two vertices on opposite sides, and such
 -- an ear may be added.
-use Rattle.std.proofs.Common.{◌≡◌, ℕ, true, not, List}
+use Rattle.counting.proofs.Common.{◌≡◌, ℕ, true, not, List, Within, Set}
 use Rattle.graph_core.proofs.Common.{Graph, IsGraph, in_cut, size}
-use Rattle.counting.proofs.Common.{Within, Set}
 use Rattle.ear_core.proofs.OppositeEnds.{opposite-serve}
 use Rattle.ear_core.proofs.ServingEars.{one-serves}
 use Rattle.ear_core.specs.Common.{IsEar, last_vertex, IsStage, with_edges}

@@ -1,8 +1,7 @@
 -- A bipartite stage with an ear whose ends lie on opposite sides is bipartite.
 -- Idea: the vertices along the ear are put on the two sides in turn. Its length is odd, so its
 -- last vertex comes to the side where it stood.
-use Rattle.std.proofs.Common.{[], ◌≡◌, ◌∙◌, ℕ, ◌≤◌, Bool, true, false, cond, not, ◌&&◌, ◌||◌, ◌==◌, List, ◌∷◌, length, inl, inr, refl, sym, ap, ap₂, arith, eq-eqb, ne_eqb, eqb-true}
-use Rattle.counting.proofs.Common.{cases_eq, or_cases, true≢false, not_not, Within, bit, is_odd, mem, times, Set}
+use Rattle.counting.proofs.Common.{[], ◌≡◌, ◌∙◌, ℕ, ◌≤◌, Bool, true, false, cond, not, ◌&&◌, ◌||◌, ◌==◌, List, ◌∷◌, length, inl, inr, refl, sym, ap, ap₂, arith, eq-eqb, ne_eqb, eqb-true, cases_eq, or_cases, true≢false, not_not, Within, bit, is_odd, mem, times, Set}
 use Rattle.ear_core.proofs.EngineGraphs.{ends-met}
 use Rattle.ear_core.proofs.TraceEdges.{mem_times, start_mem, trail_has, two_less_odd}
 use Rattle.ear_core.specs.Common.{Follow, IsEar, last_vertex, other_end, trail, is_met, with_edges}

@@ -1,8 +1,7 @@
 -- A maximal family of tight shores of which no two cross is that of a derivation, and the shores
 -- of a derivation are such a family. By induction: the members inside a cut are such a family of
 -- its kept side, and those not inside it one of its merged side.
-use Rattle.std.proofs.Common.{◌≡◌, ◌⊎◌, ◌↔◌, ℕ, zero, suc, ◌≤◌, Bool, true, false, not, ◌&&◌, List, [], ◌∷◌, filter, length, refl, sym, ap, arith, inl, inr, subst}
-use Rattle.counting.proofs.Common.{and_parts, and_from, both_ways, cases_Bool, false_from_ne_true, all_in_true, true_all_in, Within, IsIn, is_subset, mem}
+use Rattle.counting.proofs.Common.{◌≡◌, ◌⊎◌, ◌↔◌, ℕ, zero, suc, ◌≤◌, Bool, true, false, not, ◌&&◌, List, [], ◌∷◌, filter, length, refl, sym, ap, arith, inl, inr, subst, and_parts, and_from, both_ways, cases_Bool, false_from_ne_true, all_in_true, true_all_in, Within, IsIn, is_subset, mem}
 use Rattle.graph_core.proofs.Common.{Apart, Below, IsCovered, Graph, IsGraph, singles}
 use Rattle.tree_core.proofs.Common.{kept-length, merged-length, cut-shore, shore-cut, IsDerivation, IsDerivationAt, IsLeafAt, IsTightShore, kept_at, merged_at, Shape, cut, leaf, shores}
 use Rattle.move_laws.proofs.BigShores.{Stage, big_cut, big_some}

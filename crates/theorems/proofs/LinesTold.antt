@@ -1,9 +1,8 @@
 -- For every query each line of a list has an output, or it is bad with a first error. So each list
 -- has an outcome. Idea: the line stands for a multigraph or has a first error, and of a multigraph
 -- it can be told whether it is covered, of which kind it is, and how its leaves are counted.
-use Rattle.std.proofs.Common.{◌≡◌, ◌≢◌, ◌⊎◌, ◌↔◌, ℕ, List, [], Bool, true, false, Option, Some, None, Result, Ok, Err, is_none, refl, sym, subst, inl, inr, arith, IsTrue, IsFalse}
+use Rattle.counting.proofs.Common.{◌≡◌, ◌≢◌, ◌⊎◌, ◌↔◌, ℕ, List, [], Bool, true, false, Option, Some, None, Result, Ok, Err, is_none, refl, sym, subst, inl, inr, arith, IsTrue, IsFalse, true≢false, both_ways, cases_eq, cases_lt, Set, none, mem}
 use Rattle.std.specs.Global.{Vec}
-use Rattle.counting.proofs.Common.{true≢false, both_ways, cases_eq, cases_lt, Set, none, mem}
 use Rattle.line_text.specs.declared.faults.FaultKind.{FaultKind}
 use Rattle.line_text.specs.declared.faults.FaultKind.TheVariants.{Extra}
 use Rattle.graph_core.proofs.Common.{Graph, IsCovered, IsMultigraph, HasPerfect, IsBicritical, equivalent_pair, has_perfect, has_perfect_found, has_perfect_says, is_bicritical, maximum_exists, missed_count}

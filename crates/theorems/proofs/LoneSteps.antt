@@ -1,7 +1,6 @@
 -- Whether a perfect matching leads out of a stage at two vertices alone is decided.
 -- Idea: for each two vertices the graph of the open edges has a perfect matching or none.
-use Rattle.std.proofs.Common.{◌≡◌, ◌≢◌, ℕ, zero, suc, ◌⊎◌, arith, inl, inr, true, subst}
-use Rattle.counting.proofs.Common.{both_ways, cases_Bool, cases_eq, rising_only, Within, mem, Set, none}
+use Rattle.counting.proofs.Common.{◌≡◌, ◌≢◌, ℕ, zero, suc, ◌⊎◌, arith, inl, inr, true, subst, both_ways, cases_Bool, cases_eq, rising_only, Within, mem, Set, none}
 use Rattle.barrier_kit.proofs.Common.{perfect_or_not}
 use Rattle.ear_core.proofs.MarkedMatchings.{marked-listed, marked-perfect}
 use Rattle.ear_core.proofs.NextStages.{met-within}

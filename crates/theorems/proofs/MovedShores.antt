@@ -1,8 +1,6 @@
 -- A move keeps the form of a tree: if the shores are rising lists below the greatest vertex, so
 -- are those of its result. Each new shore is written as a rising list, and each other one stays.
-use Rattle.std.proofs.Common.{◌≡◌, ℕ, Bool, true, false, ◌&&◌, List, [], ◌∷◌, Option, Some, None, option_map, if◌then◌else◌, refl, subst}
-use Rattle.counting.proofs.Common.{none-some, same_Some, rising_list-rises, is_apart, is_subset, mem, union}
-use Rattle.std.specs.List.Sorted.{IsStrictlyIncreasing}
+use Rattle.counting.proofs.Common.{◌≡◌, ℕ, Bool, true, false, ◌&&◌, List, [], ◌∷◌, Option, Some, None, option_map, if◌then◌else◌, refl, subst, IsStrictlyIncreasing, none-some, same_Some, rising_list-rises, is_apart, is_subset, mem, union}
 use Rattle.graph_core.proofs.Common.{complement_of}
 use Rattle.tree_check.proofs.MovesFit.{move-fits}
 use Rattle.tree_check.specs.Common.{HasShores}

@@ -1,10 +1,7 @@
 -- The names of a graph that a file gives differ, and there is one for each vertex. They do so from
 -- line to line: a further name has the form of one and is new, and at the end their number is that
 -- of the vertices.
-use Rattle.std.proofs.Common.{◌≡◌, ℕ, ◌+◌, ◌≤◌, nat_lt, Bool, true, false, cond, List, [], ◌∷◌, length, Option, Some, None, Result, Ok, Err, refl, arith, ltb-true, codes}
-use Rattle.counting.proofs.Common.{not-false, none-some}
-use Rattle.std.specs.Option.{ForSome}
-use Rattle.std.specs.Result.{result_map_both}
+use Rattle.counting.proofs.Common.{◌≡◌, ℕ, ◌+◌, ◌≤◌, nat_lt, Bool, true, false, cond, List, [], ◌∷◌, length, Option, Some, None, Result, Ok, Err, refl, arith, ltb-true, codes, ForSome, result_map_both, not-false, none-some}
 use Rattle.graph_core.proofs.Common.{Graph, size}
 use Rattle.line_text.specs.declared.faults.FaultKind.{FaultKind}
 use Rattle.line_text.specs.declared.faults.FaultKind.TheVariants as kind

@@ -1,7 +1,6 @@
 -- The shores of a derivation are a maximal family of nested cuts. By induction: where the two
 -- sides of a cut have such families, these and the cut are one.
-use Rattle.std.proofs.Common.{ℕ, List, ◌∷◌, ◌++◌, refl, sym, inl, inr, subst}
-use Rattle.counting.proofs.Common.{both_ways, IsIn, mem}
+use Rattle.counting.proofs.Common.{ℕ, List, ◌∷◌, ◌++◌, refl, sym, inl, inr, subst, both_ways, IsIn, mem}
 use Rattle.graph_core.proofs.Common.{Graph}
 use Rattle.tree_core.proofs.Common.{IsCutAt, IsDerivationAt, IsLeafAt, kept_at, merged_at, Shape, cut, leaf, shores}
 use Rattle.move_laws.proofs.BigShores.{Stage, big_cut, cut_big}

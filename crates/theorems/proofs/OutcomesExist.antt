@@ -1,9 +1,8 @@
 -- Each command whose files load has a report, and so each command has an outcome or names a file
 -- that is missing. What a file is read as gives what the report asks of it: a graph file a graph
 -- within the limits, a tree file shores that are sets, an ear file an edge to begin with.
-use Rattle.std.proofs.Common.{◌≡◌, ◌⊎◌, ℕ, ◌≤◌, nat_lt, Bool, true, false, cond, List, length, Option, Some, None, Result, Ok, Err, refl, sym, ap, subst, inl, inr}
+use Rattle.counting.proofs.Common.{◌≡◌, ◌⊎◌, ℕ, ◌≤◌, nat_lt, Bool, true, false, cond, List, length, Option, Some, None, Result, Ok, Err, refl, sym, ap, subst, inl, inr, Within}
 use Rattle.outside.specs.Common.{NamedFile, file_named, most_bytes}
-use Rattle.counting.proofs.Common.{Within}
 use Rattle.ear_core.specs.Common.{PlainEars}
 use Rattle.ear_text.proofs.EarsRead.{list-read}
 use Rattle.ear_text.specs.EarFormat.{ear_format}

@@ -1,9 +1,8 @@
 -- A derivation is a tree of nontrivial tight cuts in words that do not name the contracted graph,
 -- and a pairing of leaves is a bijection. An odd number of blocks follows from a perfect
 -- matching, which has exactly one edge in the cut.
-use Rattle.std.proofs.Common.{◌≡◌, ◌&&◌, ℕ, suc, ◌+◌, true, not, ◌==◌, List, length, refl, sym, ap, ◌∙◌, arith, eq-eqb, eqb-true}
+use Rattle.counting.proofs.Common.{◌≡◌, ◌&&◌, ℕ, suc, ◌+◌, true, not, ◌==◌, List, length, refl, sym, ap, ◌∙◌, arith, eq-eqb, eqb-true, only_one, count_member, complement_odd, odd-double, Within, count, is_odd, mem, Set, complement, none}
 use Rattle.barrier_kit.proofs.Common.{even_order}
-use Rattle.counting.proofs.Common.{only_one, count_member, complement_odd, odd-double, Within, count, is_odd, mem, Set, complement, none}
 use Rattle.definition_laws.proofs.BlockWords.{tight-words, words-tight}
 use Rattle.graph_core.proofs.Common.{contracted-graph, block_count_rest, covered_perfect, parity, edges-in-cut-at, Graph, inside, size, contracted, block_count, blocks_in}
 use Rattle.tree_core.proofs.Common.{IsCutAt, IsDerivationAt, IsLeafAt, kept_at, merged_at, PlainLeafMap, leaf_at, map_at, Shape, cut, leaf}

@@ -2,10 +2,9 @@
 -- Idea: by induction on the number of blocks. A cut at the partition is a nontrivial tight shore
 -- of the quotient, and below it both count the same, since the quotients of the quotient are
 -- those of the graph.
-use Rattle.std.proofs.Common.{[], ◌≡◌, ◌∙◌, ◌↔◌, ℕ, zero, suc, ◌≤◌, ◌<◌, List, ◌∷◌, ◌++◌, length, not, inl, inr, refl, sym, ap, arith, subst}
+use Rattle.counting.proofs.Common.{[], ◌≡◌, ◌∙◌, ◌↔◌, ℕ, zero, suc, ◌≤◌, ◌<◌, List, ◌∷◌, ◌++◌, length, not, inl, inr, refl, sym, ap, arith, subst, rising_list-congr, Within, IsRisingIn, mem, complement}
 use Rattle.contraction.proofs.QuotientLaws.{tight_at_up}
 use Rattle.mcg6_lines.proofs.Counts.{same_counts}
-use Rattle.counting.proofs.Common.{rising_list-congr, Within, IsRisingIn, mem, complement}
 use Rattle.theorems.proofs.Quotients.{bipartite-or, leaf-quotient}
 use Rattle.graph_core.proofs.Common.{at_rep, rep, rep_in, complement_of-rises, complement_of-rising_list, mem-complement_of, quotient_graph, quotient-order, quotient_edge, nontrivial-same, tight-same, complement-tight, length-singles, singles-partition, IsCovered, Graph, IsGraph, IsMultigraph, first_end, second_end, IsPartition, complement_of, merged, singles, quotient, IsTightAt, blocks_in, IsNontrivial}
 use Rattle.mcg6_lines.proofs.SingleLeaves.{one_brace, one_brick}

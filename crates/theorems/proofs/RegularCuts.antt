@@ -1,8 +1,7 @@
 -- A tight cut of an r-graph has r edges. A perfect matching is heaviest for the weight "n, and one
 -- more in the cut", so a cover weighs as much; its inequality is summed over all edges. So there is
 -- no nontrivial tight cut if each nontrivial odd set has more than r edges in its cut.
-use Rattle.std.proofs.Common.{◌≡◌, ℕ, suc, zero, ◌+◌, ◌*◌, ◌/◌, ◌≤◌, true, false, List, [], ◌∷◌, refl, sym, ap, ◌∙◌, arith, All, inl, inr, mul-add, mul-le-mul_left, mul_left_comm}
-use Rattle.counting.proofs.Common.{All-head, All-tail, cases_lt, complement_odd, order_even, true≢false, bit, count, is_odd, total, Set, complement, everything, none}
+use Rattle.counting.proofs.Common.{◌≡◌, ℕ, suc, zero, ◌+◌, ◌*◌, ◌/◌, ◌≤◌, true, false, List, [], ◌∷◌, refl, sym, ap, ◌∙◌, arith, All, inl, inr, mul-add, mul-le-mul_left, mul_left_comm, All-head, All-tail, cases_lt, complement_odd, order_even, true≢false, bit, count, is_odd, total, Set, complement, everything, none}
 use Rattle.brick_kit.proofs.CoverBound.{Dual, cover_sum}
 use Rattle.brick_kit.proofs.CutWeights.{cut_weight, perfect_heaviest}
 use Rattle.brick_kit.proofs.Duality.{dual}

@@ -1,8 +1,7 @@
 -- For every tree and every list of moves there is a report of `replay`, and for every two trees
 -- one of `script`. The moves are made one after another, up to the first without a result or with
 -- a result that is refused; the sets of a proper Switch are blocks, and so its text is read again.
-use Rattle.std.proofs.Common.{◌≡◌, ◌⊎◌, ◌+◌, ℕ, ◌<◌, ◌^◌, List, [], ◌∷◌, length, Option, Some, None, option_map, refl, arith, inl, inr}
-use Rattle.counting.proofs.Common.{none-some, AllByRecursion}
+use Rattle.counting.proofs.Common.{◌≡◌, ◌⊎◌, ◌+◌, ℕ, ◌<◌, ◌^◌, List, [], ◌∷◌, length, Option, Some, None, option_map, refl, arith, inl, inr, none-some, AllByRecursion}
 use Rattle.graph_core.proofs.Common.{Graph, IsGraph, IsMultigraph, singles, IsWithinLimits}
 use Rattle.line_text.specs.Common.{Stands}
 use Rattle.move_laws.proofs.Rising.{rising-derivation_at}

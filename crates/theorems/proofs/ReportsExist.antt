@@ -1,8 +1,7 @@
 -- For every two trees, every tree and every list of ears there is a report: a refusal is found
 -- if the rules are not kept, and if they are, the leaves have kinds and a script leads from
 -- the first derivation to the second.
-use Rattle.std.proofs.Common.{◌≡◌, ◌⊎◌, ℕ, List, length, refl, subst, sym, inl, inr}
-use Rattle.counting.proofs.Common.{Within}
+use Rattle.counting.proofs.Common.{◌≡◌, ◌⊎◌, ℕ, List, length, refl, subst, sym, inl, inr, Within}
 use Rattle.definition_laws.proofs.Reasons.{covered_or_reason}
 use Rattle.graph_core.proofs.Common.{reason-uncovered, IsCovered, IsReason, Reason, Small, Parted, Unmatched, Unallowed, Graph, IsGraph, IsMultigraph, size, singles, reason_of}
 use Rattle.graph_core.specs.declared.verdict.Reason.{Reason as ToldReason}

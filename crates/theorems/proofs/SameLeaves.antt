@@ -1,7 +1,6 @@
 -- Lovász's uniqueness theorem: the pairing of the leaves of two tight cut decompositions, said of
 -- their quotients, and what it counts.
-use Rattle.std.proofs.Common.{◌≡◌, ℕ, ◌-◌, Bool, ◌==◌, ◌&&◌, sym, ap, ap₂, ◌∙◌, arith, List, [], length, count_by}
-use Rattle.counting.proofs.Common.{Within}
+use Rattle.counting.proofs.Common.{◌≡◌, ℕ, ◌-◌, Bool, ◌==◌, ◌&&◌, sym, ap, ap₂, ◌∙◌, arith, List, [], length, count_by, Within}
 use Rattle.graph_core.proofs.Common.{quotient_graph, Graph, IsGraph, quotient}
 use Rattle.move_laws.proofs.Uniqueness.{pairing_law}
 use Rattle.tree_core.proofs.Common.{leaf_count-cuts, length-leaves_at, partitions-leaves, IsDerivation, cut_count, leaf_at, leaves, Shape}

@@ -1,7 +1,6 @@
 -- Pairs of vertices that tight sets separate: two vertices are in no pair of a and b if they
 -- differ from both.
-use Rattle.std.proofs.Common.{◌≡◌, ◌≢◌, ◌↔◌, ℕ, true, false, ◌==◌, eq-eqb, ne_eqb, sym}
-use Rattle.counting.proofs.Common.{both_ways, or_from, or_left, or_right, Within, pair_set}
+use Rattle.counting.proofs.Common.{◌≡◌, ◌≢◌, ◌↔◌, ℕ, true, false, ◌==◌, eq-eqb, ne_eqb, sym, both_ways, or_from, or_left, or_right, Within, pair_set}
 use Rattle.graph_core.proofs.Common.{Graph, IsGraph}
 use Rattle.tight_cuts.proofs.LeastShores.{separated_found, separated_says}
 use Rattle.tight_cuts.specs.Common.{is_separated}

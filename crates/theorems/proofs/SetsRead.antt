@@ -2,8 +2,7 @@
 -- eight lines of the report are written words, so they are cut and read as they were meant, and the
 -- words in front differ.
 use Rattle.std.proofs.Common.{◌≡◌, ℕ, ◌<◌, ◌≤◌, ◌^◌, ◌==◌, Bool, true, false, cond, List, [], ◌∷◌, ◌++◌, map, drop, Option, Some, None, refl, sym, ap, ◌∙◌, arith, append_assoc, append-nil, eq-eqb, codes, decimal}
-use Rattle.std.specs.List.{AllByRecursion, list_all}
-use Rattle.counting.proofs.Common.{and_from, count_le, mem-within, or_left, or_right, Lists, mem, none}
+use Rattle.counting.proofs.Common.{AllByRecursion, list_all, and_from, count_le, mem-within, or_left, or_right, Lists, mem, none}
 use Rattle.graph_core.proofs.Common.{component_count, missed_count, Graph, InA, InC, InD, size}
 use Rattle.line_text.proofs.Decimals.{is_word-decimal, number-decimal, value-decimal}
 use Rattle.line_text.proofs.ReadBack.{is_closed-unlines, lines_of-append, lines_of-written, words_of-unwords}

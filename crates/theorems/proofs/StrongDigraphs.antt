@@ -2,8 +2,7 @@
 -- of the matching without a and b is strongly connected. A walk that begins no step at a never
 -- comes to b, since the only arc to b is that of a; and a tight shore with a and without b holds
 -- what a walk that keeps away from both leads to.
-use Rattle.std.proofs.Common.{◌≡◌, ◌≢◌, ℕ, Bool, true, false, cond, ◌==◌, refl, sym, ap, ◌∙◌, arith, ◌&&◌, ◌||◌, ◌↔◌, not, eq-eqb, ne_eqb, inl, inr, List, [], ◌∷◌}
-use Rattle.counting.proofs.Common.{and_from, and_parts, both_ways, not-true, Within, Set, complement, none}
+use Rattle.counting.proofs.Common.{◌≡◌, ◌≢◌, ℕ, Bool, true, false, cond, ◌==◌, refl, sym, ap, ◌∙◌, arith, ◌&&◌, ◌||◌, ◌↔◌, not, eq-eqb, ne_eqb, inl, inr, List, [], ◌∷◌, and_from, and_parts, both_ways, not-true, Within, Set, complement, none}
 use Rattle.graph_core.proofs.Common.{IsClosed, Walk-stays, adjacent-edge, adjacent_within, IsCovered, Graph, IsGraph, IsPerfect, IsSide, HasOnlyTrivialTightCuts, Walk, adjacent}
 use Rattle.matching_digraph.proofs.ArcRows.{past-walks}
 use Rattle.matching_digraph.proofs.Shores.{second_member}

@@ -1,10 +1,9 @@
 -- What an outcome of each command says, in the words of a textbook: its records give it, and
 -- if a task succeeds it is not refused. The files say what the command works on, and the
 -- outcome computes to the record of its task.
-use Rattle.std.proofs.Common.{◌≡◌, ◌∙◌, ◌↔◌, ℕ, List, [], ◌∷◌, Option, Some, None, option_map, refl, sym, ap, subst, inl, inr, codes}
+use Rattle.counting.proofs.Common.{◌≡◌, ◌∙◌, ◌↔◌, ℕ, List, [], ◌∷◌, Option, Some, None, option_map, refl, sym, ap, subst, inl, inr, codes, mem}
 use Rattle.outside.specs.Common.{NamedFile}
 use Rattle.brick_kit.proofs.Bricks.{brick_or_not}
-use Rattle.counting.proofs.Common.{mem}
 use Rattle.theorems.proofs.Quotients.{bricks-and_braces}
 use Rattle.ear_text.specs.EarFormat.{ear_format}
 use Rattle.graph_core.proofs.Common.{IsCovered, Graph, IsBipartite, IsMultigraph, size, singles, HasOnlyTrivialTightCuts, IsNontrivial, IsTight, IsVerdict, reason_of, reason-uncovered}

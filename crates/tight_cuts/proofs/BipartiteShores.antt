@@ -1,8 +1,7 @@
 -- What an edge of a bipartite graph gives, by the digraph of a perfect matching that holds it.
 -- Idea: the least tight shore with an end of the edge and x, and without the other end, is the
 -- intersection of all; and a pair is separated by a nontrivial one alone.
-use Rattle.std.proofs.Common.{IfOk, Result, ◌≡◌, ℕ, true, ◌==◌, List, max, min, Some, None, eq-eqb, arith}
-use Rattle.counting.proofs.Common.{same_tests, both_ways, false_from_ne_true, or_left, or_right, Within, mem, pair_set}
+use Rattle.counting.proofs.Common.{IfOk, Result, ◌≡◌, ℕ, true, ◌==◌, List, max, min, Some, None, eq-eqb, arith, same_tests, both_ways, false_from_ne_true, or_left, or_right, Within, mem, pair_set}
 use Rattle.graph_core.proofs.Common.{IsCovered, Graph, first_end, second_end, size, IsWithinLimits}
 use Rattle.match_core.specs.Common.{MatchingValue, edges_of}
 use Rattle.matching_digraph.proofs.TightShores.{mates_from}

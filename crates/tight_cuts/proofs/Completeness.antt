@@ -1,7 +1,6 @@
 -- The candidates: none twice, each tight if the shores of the first two parts are, and each
 -- edge of a nontrivial tight cut in a candidate's cut.
-use Rattle.std.proofs.Common.{◌≡◌, ℕ, true, refl, sym, ap, ◌∙◌, arith, List, [], ◌∷◌, ◌↔◌, subst, All, fold, AllPairs}
-use Rattle.counting.proofs.Common.{true≢false, not-true, All-nil, All-head, All-tail, count_member, list_any, Within, mem, Set, complement}
+use Rattle.counting.proofs.Common.{◌≡◌, ℕ, true, refl, sym, ap, ◌∙◌, arith, List, [], ◌∷◌, ◌↔◌, subst, All, fold, AllPairs, true≢false, not-true, All-nil, All-head, All-tail, count_member, list_any, Within, mem, Set, complement}
 use Rattle.tight_cuts.specs.Common.{ShoresDiffer, Barrier, Separation, cuts, front_candidates, Origin, Candidate, with_list, candidates, IsTightCandidate}
 use Rattle.barrier_kit.proofs.Common.{cut_edge, barrier_shores-tight, barrier_shores}
 use Rattle.graph_core.proofs.Common.{IsCovered, Graph, size, IsGraph, in_cut, IsTight, IsNontrivial}

@@ -1,9 +1,7 @@
 -- What the search for two edges of a cut in one perfect matching shows: the matching that it
 -- finds is not a witness of tightness, and if it finds none, no two edges of the cut lie
 -- together, which makes an odd cut tight.
-use Rattle.std.proofs.Common.{◌≡◌, ℕ, ◌<◌, ◌&&◌, List, length, true, false, ap, ◌∙◌, arith, subst, All}
-use Rattle.std.proofs.lemmas.List.Folds.{Any-from_list_any}
-use Rattle.counting.proofs.Common.{and_parts, cases_order, count_mem_length, complement_odd, false_from_ne_true, two_of, Within, count, is_odd, IsRisingIn, complement, mem, Set, none}
+use Rattle.counting.proofs.Common.{◌≡◌, ℕ, ◌<◌, ◌&&◌, List, length, true, false, ap, ◌∙◌, arith, subst, All, Any-from_list_any, and_parts, cases_order, count_mem_length, complement_odd, false_from_ne_true, two_of, Within, count, is_odd, IsRisingIn, complement, mem, Set, none}
 use Rattle.barrier_kit.proofs.Common.{even_order}
 use Rattle.graph_core.proofs.Common.{covered_perfect, IsCovered, Graph, IsGraph, edges_in_cut, in_cut, size, IsPerfect, IsTight}
 use Rattle.allowed_edges.specs.PairTables.{IsNew, PairsValue, edge_lists, holds_both}

@@ -1,10 +1,9 @@
 -- A covered graph that is not bipartite and has no candidate of the first two parts has none at
 -- all. It is bicritical, since else a barrier gives a cut, and has no cut pair, since else a
 -- separation does; so by the theorem on bricks no nontrivial shore is tight.
-use Rattle.std.proofs.Common.{◌≡◌, ◌≤◌, ℕ, Option, Some, None, [], refl, sym, ◌∙◌, arith}
+use Rattle.counting.proofs.Common.{◌≡◌, ◌≤◌, ℕ, Option, Some, None, [], refl, sym, ◌∙◌, arith, count_complement, Set}
 use Rattle.barrier_kit.proofs.Common.{no_sides, bicritical_no_cuts, some_cut, barrier_cuts}
 use Rattle.brick_kit.proofs.Bricks.{no_shore}
-use Rattle.counting.proofs.Common.{count_complement, Set}
 use Rattle.graph_core.proofs.Common.{IsCovered, Graph, IsBipartite, IsMultigraph, IsBicritical, equivalent_pair, IsNontrivial, IsTight}
 use Rattle.separation_kit.proofs.SeparationFacts.{pair_some_cut, equivalent-none}
 use Rattle.separation_kit.specs.Common.{separation_cuts}

@@ -1,7 +1,6 @@
 -- What turned graphs show. Idea: of the edges at u a matching that leaves a set at u has only the
 -- one in the cut, so all its edges keep their ends in the turned graph, and it is perfect there.
-use Rattle.std.proofs.Common.{◌≡◌, ℕ, zero, suc, List, [], ◌∷◌, length, map, slice_index_or, eq-eqb, ◌<◌, ◌+◌, ◌==◌, ◌&&◌, false, true, refl, sym, ap, ap₂, ◌∙◌, subst, arith, inl, inr}
-use Rattle.counting.proofs.Common.{all_in, all_in_true, and_from, both_ways, cases_Bool, cases_eq, cases_lt, count, count_congr, mem, or_left, or_right, Within, Set, none}
+use Rattle.counting.proofs.Common.{◌≡◌, ℕ, zero, suc, List, [], ◌∷◌, length, map, slice_index_or, eq-eqb, ◌<◌, ◌+◌, ◌==◌, ◌&&◌, false, true, refl, sym, ap, ap₂, ◌∙◌, subst, arith, inl, inr, all_in, all_in_true, and_from, both_ways, cases_Bool, cases_eq, cases_lt, count, count_congr, mem, or_left, or_right, Within, Set, none}
 use Rattle.graph_core.proofs.Common.{Graph, IsGraph, IsMultigraph, degree, first_end, second_end, in_cut, size, Allowed, HasEnds, IsEnd, IsPerfect, adjacent, adjacent_from, adjacent_within, has_ends-from, has_perfect_found, with_edge}
 use Rattle.allowed_edges.proofs.PairSteps.{apart_shared}
 use Rattle.allowed_edges.specs.PairTables.{IsPerfectWith}

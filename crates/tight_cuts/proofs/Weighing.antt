@@ -1,9 +1,7 @@
 -- Counting how often the matchings of a list hold each edge, row by row.
 -- Idea: the edges of a matching rise, so the edge of a row is in no earlier row.
-use Rattle.std.proofs.Common.{◌≡◌, ℕ, suc, zero, ◌+◌, ◌≤◌, ◌<◌, true, false, ◌||◌, ◌==◌, List, [], ◌∷◌, length, map, take, refl, sym, ap, ◌∙◌, arith, inl, inr, eq-eqb, ne_eqb, get_or, get_or-set_same, get_or-set_other, rules, Some, slice_get, slice_set}
+use Rattle.counting.proofs.Common.{◌≡◌, ℕ, suc, zero, ◌+◌, ◌≤◌, ◌<◌, true, false, ◌||◌, ◌==◌, List, [], ◌∷◌, length, map, take, refl, sym, ap, ◌∙◌, arith, inl, inr, eq-eqb, ne_eqb, get_or, get_or-set_same, get_or-set_other, rules, Some, slice_get, slice_set, slice_get_read, cases_eq, or_left, or_right, or_from, both_ways, sum_by-cons, Rises, mem_low, rises-from_set, bit_le_one, or_false, bit, mem}
 use Rattle.std.proofs.Math.ListN.{replicate}
-use Rattle.std.proofs.lemmas.Option.{slice_get_read}
-use Rattle.counting.proofs.Common.{cases_eq, or_left, or_right, or_from, both_ways, sum_by-cons, Rises, mem_low, rises-from_set, bit_le_one, or_false, bit, mem}
 use Rattle.allowed_edges.proofs.Marking.{edges-more}
 use Rattle.allowed_edges.specs.PairTables.{AreGrown, PairsValue, edge_lists}
 use Rattle.graph_core.proofs.Common.{Graph, size, IsWithinLimits}

@@ -1,8 +1,6 @@
 -- The leaves of a derivation counted as the scan goes: the count of one leaf is told by its kind,
 -- and those of the two trees below a cut add up, since their kinds stand one after the other.
-use Rattle.std.proofs.Common.{◌≡◌, ℕ, ◌+◌, Bool, List, [], ◌∷◌, ◌++◌, cond, ap, ◌∙◌, count_by, arith}
-use Rattle.std.proofs.lemmas.List.Sums.{sum_by-append}
-use Rattle.counting.proofs.Common.{length-append}
+use Rattle.counting.proofs.Common.{◌≡◌, ℕ, ◌+◌, Bool, List, [], ◌∷◌, ◌++◌, cond, ap, ◌∙◌, count_by, arith, sum_by-append, length-append}
 use Rattle.graph_core.proofs.Common.{Graph, quotient}
 use Rattle.tree_core.proofs.Common.{kinds-both, kinds-one, length-leaves_at, IsKindOf, IsTally, Shape, is_brick, leaf_count, leaves_at, tally_of}
 use Rattle.tree_core.specs.declared.tallies.LeafKind.{LeafKind}

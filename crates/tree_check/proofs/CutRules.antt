@@ -1,8 +1,7 @@
 -- What the rules of a cut show. The test of tightness is made on the quotient, at the places of
 -- the blocks in the shore: a cut that is tight there is tight at the partition, and a perfect
 -- matching with two edges in it is lifted to one at the partition.
-use Rattle.std.proofs.Common.{◌≡◌, ◌≢◌, ◌⊎◌, ◌↔◌, IsTrue, ◌%◌, ◌==◌, Option, Some, unwrap_or, ℕ, zero, suc, ◌+◌, ◌*◌, ◌-◌, ◌≤◌, Bool, true, false, not, ◌&&◌, ◌||◌, List, length, refl, sym, ap, ap₂, ◌∙◌, arith, subst, inl, inr}
-use Rattle.counting.proofs.Common.{list_all, both_ways, cases_Bool, count_complement, count_congr, count_mem_length, is_odd_remainder, odd-double, length-rising_list, mem-outside, mem-rising_list, rising_list-rises, set-wider, Within, count, is_odd, IsRisingIn, mem, rising_list, Set, none}
+use Rattle.counting.proofs.Common.{◌≡◌, ◌≢◌, ◌⊎◌, ◌↔◌, IsTrue, ◌%◌, ◌==◌, Option, Some, unwrap_or, ℕ, zero, suc, ◌+◌, ◌*◌, ◌-◌, ◌≤◌, Bool, true, false, not, ◌&&◌, ◌||◌, List, length, refl, sym, ap, ap₂, ◌∙◌, arith, subst, inl, inr, list_all, both_ways, cases_Bool, count_complement, count_congr, count_mem_length, is_odd_remainder, odd-double, length-rising_list, mem-outside, mem-rising_list, rising_list-rises, set-wider, Within, count, is_odd, IsRisingIn, mem, rising_list, Set, none}
 use Rattle.contraction.proofs.BlockUnions.{in_or_apart, test-from_union, union-from_test}
 use Rattle.contraction.proofs.LiftedMatchings.{lifted-perfect, perfect-congr}
 use Rattle.contraction.proofs.ProjectedMatchings.{lifted-cut}

@@ -1,7 +1,6 @@
 -- What the rule of a leaf shows: there is no candidate at a partition if and only if no nontrivial
 -- shore is tight at it.
-use Rattle.std.proofs.Common.{◌≡◌, ◌⊎◌, ℕ, List, [], ◌∷◌, length, Option, Some, None, unwrap_or, refl, sym, ap, ◌∙◌, arith, inl, inr}
-use Rattle.counting.proofs.Common.{Set}
+use Rattle.counting.proofs.Common.{◌≡◌, ◌⊎◌, ℕ, List, [], ◌∷◌, length, Option, Some, None, unwrap_or, refl, sym, ap, ◌∙◌, arith, inl, inr, Set}
 use Rattle.graph_core.proofs.Common.{IsCovered, Graph, IsGraph, IsPartition, quotient, IsTightAt, blocks_in, IsNontrivial}
 use Rattle.tight_cuts.proofs.PartitionCandidates.{none-at}
 use Rattle.tight_cuts.specs.Common.{Candidate, first_shore, candidates_at}

@@ -1,7 +1,6 @@
 -- The three answers to a script exclude one another, and each is determined: a move has one
 -- result at most, so two replays go through the same trees, and a derivation has no refusal.
-use Rattle.std.proofs.Common.{◌≡◌, ◌↔◌, ◌+◌, ℕ, List, [], ◌∷◌, inl, inr, sym, ◌∙◌, ap, subst, arith}
-use Rattle.counting.proofs.Common.{none-some, same_Some}
+use Rattle.counting.proofs.Common.{◌≡◌, ◌↔◌, ◌+◌, ℕ, List, [], ◌∷◌, inl, inr, sym, ◌∙◌, ap, subst, arith, none-some, same_Some}
 use Rattle.graph_core.proofs.Common.{Graph, IsGraph}
 use Rattle.tree_core.proofs.Common.{PlainMove, TurnsThrough, Shape}
 use Rattle.tree_core.specs.declared.tree.Tree.{Tree}

@@ -1,7 +1,6 @@
 -- A replay as far as it has come: the first moves turn the first tree through derivations into
 -- the tree that is reached. The next move goes on, or it is the first failing one.
-use Rattle.std.proofs.Common.{◌≡◌, ◌+◌, ℕ, zero, suc, List, [], ◌∷◌, slice_get, take, Some, None, refl, subst, arith}
-use Rattle.counting.proofs.Common.{none-some}
+use Rattle.counting.proofs.Common.{◌≡◌, ◌+◌, ℕ, zero, suc, List, [], ◌∷◌, slice_get, take, Some, None, refl, subst, arith, none-some}
 use Rattle.graph_core.proofs.Common.{Graph}
 use Rattle.tree_core.proofs.Common.{IsDerivation, PlainMove, TurnsThrough, move_result, move_of, moves_of, Shape}
 use Rattle.tree_core.specs.declared.moves.Move.{Move}

@@ -1,7 +1,6 @@
 -- Steps of the scan of a tree: what is found below a cut, said of the tree that the cut makes;
 -- and the numbers of its nodes and leaves, which stay below those of the blocks.
-use Rattle.std.proofs.Common.{◌≡◌, ℕ, ◌+◌, ◌*◌, ◌≤◌, List, length, refl, arith, subst₂, inl, inr}
-use Rattle.counting.proofs.Common.{count, mem}
+use Rattle.counting.proofs.Common.{◌≡◌, ℕ, ◌+◌, ◌*◌, ◌≤◌, List, length, refl, arith, subst₂, inl, inr, count, mem}
 use Rattle.graph_core.proofs.Common.{Graph, IsGraph, IsCovered, IsPartition, singles, blocks_in}
 use Rattle.tree_core.proofs.Common.{blocks-below, few-cuts_at, kept-length, kept-partition, merged-length, merged-partition, leaf_count-cuts, node_count-cuts, IsCutAt, PlaceValue, kept_at, leaves_at, merged_at, Shape, cut, node_count}
 use Rattle.tree_core.specs.declared.tallies.Tally.{Tally}

@@ -1,7 +1,6 @@
 -- A Switch at the end of its path. The two sets are blocks if they are unions that count one block
 -- each, and then the law of the Switch says that its result is a derivation if its shore is a cut.
-use Rattle.std.proofs.Common.{◌≡◌, ℕ, List, [], ◌∷◌, length, ◌∙◌, arith}
-use Rattle.counting.proofs.Common.{only_one, Set}
+use Rattle.counting.proofs.Common.{◌≡◌, ℕ, List, [], ◌∷◌, length, ◌∙◌, arith, only_one, Set}
 use Rattle.contraction.proofs.QuotientLaws.{covered_down}
 use Rattle.graph_core.proofs.Common.{at_place, place_in, IsCovered, Graph, IsGraph, AreBlocks, IsPartition, place, quotient, IsUnion, block_count, blocks_in}
 use Rattle.move_laws.proofs.CarriedCuts.{some_of}

@@ -1,8 +1,6 @@
 -- Leaves as places of one graph, and their kinds one after the other. The place of a leaf has its
 -- partition, so what is known of the place is known of the partition.
-use Rattle.std.proofs.Common.{◌≡◌, ℕ, ◌+◌, ◌<◌, List, [], ◌∷◌, ◌++◌, length, map, take, get_or, subst, arith}
-use Rattle.std.proofs.lemmas.List.{take_all, take_more}
-use Rattle.counting.proofs.Common.{get_or-map, length-map}
+use Rattle.counting.proofs.Common.{◌≡◌, ℕ, ◌+◌, ◌<◌, List, [], ◌∷◌, ◌++◌, length, map, take, get_or, subst, arith, take_all, take_more, get_or-map, length-map}
 use Rattle.graph_core.proofs.Common.{Graph}
 use Rattle.tree_core.specs.Common.{AreLeafKinds, IsLeafKind, PlaceValue, place_of}
 use Rattle.tree_core.specs.declared.tallies.LeafKind.{LeafKind}

@@ -1,8 +1,7 @@
 -- Lists of vertices as the reader walks over them: what goes into the set is taken off the list,
 -- and a set with the numbers of an increasing list is this list. A list that passes the tests of
 -- the format is increasing and lies in range.
-use Rattle.std.proofs.Common.{◌≡◌, ◌||◌, ◌==◌, ◌+◌, ◌≤◌, ◌<◌, ℕ, suc, List, [], ◌∷◌, All, true, false, length, nat_lt, subst, arith}
-use Rattle.counting.proofs.Common.{list_any, and_parts, or_parts, nat_tests, Rises, same_rising_list, set-from_rises, set-wider, or_false, Within, mem, IsRisingIn}
+use Rattle.counting.proofs.Common.{◌≡◌, ◌||◌, ◌==◌, ◌+◌, ◌≤◌, ◌<◌, ℕ, suc, List, [], ◌∷◌, All, true, false, length, nat_lt, subst, arith, list_any, and_parts, or_parts, nat_tests, Rises, same_rising_list, set-from_rises, set-wider, or_false, Within, mem, IsRisingIn}
 use Rattle.line_text.specs.Common.{is_out_of_range}
 use Rattle.line_text.proofs.InRange.{in_range}
 use Rattle.tree_text.specs.Common.{is_rising}

@@ -1,9 +1,7 @@
 -- What is read of a text can be written again. Along the lines of a text the shores read so far are
 -- nonempty, increasing and below n, and the nodes are counted: each line keeps this, since it
 -- passed the tests of the table, and so does a tree put at a place.
-use Rattle.std.proofs.Common.{◌≡◌, ◌+◌, ◌-◌, ◌≤◌, ◌<◌, ◌||◌, ◌^◌, nat_le, if◌then◌else◌, ℕ, List, [], ◌∷◌, All, Bool, length, map, true, false, Option, Some, None, Result, Ok, IfOk, refl, sym, subst, arith}
-use Rattle.counting.proofs.Common.{and_parts, both_ways, not-false, nat_tests, Within}
-use Rattle.std.specs.List.Sorted.{IsStrictlyIncreasing}
+use Rattle.counting.proofs.Common.{◌≡◌, ◌+◌, ◌-◌, ◌≤◌, ◌<◌, ◌||◌, ◌^◌, nat_le, if◌then◌else◌, ℕ, List, [], ◌∷◌, All, Bool, length, map, true, false, Option, Some, None, Result, Ok, IfOk, refl, sym, subst, arith, IsStrictlyIncreasing, and_parts, both_ways, not-false, nat_tests, Within}
 use Rattle.line_text.specs.Common.{Begins, Stands, finish, value_of}
 use Rattle.line_text.proofs.Tables.{all_passed, no_value}
 use Rattle.line_text.specs.declared.faults.FaultKind.TheVariants as kind

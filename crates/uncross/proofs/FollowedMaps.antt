@@ -1,8 +1,6 @@
 -- The maps so far, composed with the map of a move: each leads to a leaf by names of its blocks, to
 -- which the move gives the names of their images.
-use Rattle.std.proofs.Common.{All, List, Option, Some, None, [], ◌∙◌, ◌∷◌, ap, ap₂, arith, get_or, length, map, refl, subst, suc, ℕ, ◌+◌, ◌-◌, ◌≡◌, ◌≤◌}
-use Rattle.counting.proofs.Common.{get_or-map, Within}
-use Rattle.std.proofs.lemmas.List.Elements.{All-from_get_or}
+use Rattle.counting.proofs.Common.{All, List, Option, Some, None, [], ◌∙◌, ◌∷◌, ap, ap₂, arith, get_or, length, map, refl, subst, suc, ℕ, ◌+◌, ◌-◌, ◌≡◌, ◌≤◌, All-from_get_or, get_or-map, Within}
 use Rattle.contraction.specs.Partition.{PartitionValue}
 use Rattle.graph_core.proofs.Common.{Graph, IsPartition, place, singles}
 use Rattle.tree_core.proofs.Common.{PlainLeafMap, leaf_at, map_at, maps_from, move_maps, move_order, name, position, then_map, leaves, partitions_of, PlainMove, rotate_at, switch_at, Shape}

@@ -1,7 +1,6 @@
 -- The maps of the empty script, leaf by leaf: leaf i goes to leaf i, whose number has place i among
 -- those of all leaves, and each of its blocks keeps its name.
-use Rattle.std.proofs.Common.{◌≡◌, ℕ, zero, suc, ◌+◌, ◌<◌, List, [], ◌∷◌, ◌++◌, append_assoc, length, map, ap, ◌∙◌, arith, eq-eqb, ne_eqb}
-use Rattle.counting.proofs.Common.{length-map, map-append}
+use Rattle.counting.proofs.Common.{◌≡◌, ℕ, zero, suc, ◌+◌, ◌<◌, List, [], ◌∷◌, ◌++◌, append_assoc, length, map, ap, ◌∙◌, arith, eq-eqb, ne_eqb, length-map, map-append}
 use Rattle.contraction.specs.Partition.{PartitionValue}
 use Rattle.graph_core.proofs.Common.{names_of}
 use Rattle.move_laws.proofs.Alignments.{numbers-split}

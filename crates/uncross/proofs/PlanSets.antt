@@ -1,7 +1,6 @@
 -- The sets of a plan as lists: corners, complements, and equal shores. Idea: an increasing list is
 -- determined by its members, so it is enough to compare members.
-use Rattle.std.proofs.Common.{◌≡◌, ◌↔◌, ℕ, true, ◌&&◌, ◌||◌, not, List, sym, ◌∙◌, arith}
-use Rattle.counting.proofs.Common.{same_tests, and_parts, mem-within, all_in_true, list-from_test, same_rising_list, set-narrower, Within, IsRisingIn, is_subset, mem, complement, meet, union}
+use Rattle.counting.proofs.Common.{◌≡◌, ◌↔◌, ℕ, true, ◌&&◌, ◌||◌, not, List, sym, ◌∙◌, arith, same_tests, and_parts, mem-within, all_in_true, list-from_test, same_rising_list, set-narrower, Within, IsRisingIn, is_subset, mem, complement, meet, union}
 use Rattle.tree_core.proofs.Common.{list-of, meet_list}
 use Rattle.move_laws.specs.Common.{outer_of}
 

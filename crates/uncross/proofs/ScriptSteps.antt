@@ -1,8 +1,7 @@
 -- The maps of a script, move by move: what is true after some of its moves. Idea: the maps made so
 -- far, composed with those of the moves left, are the maps of the whole script; each move keeps
 -- this.
-use Rattle.std.proofs.Common.{All, List, Some, ap, arith, length, map, subst, subst₂, sym, unwrap_or, ℕ, ◌∙◌, ◌∷◌, ◌≡◌, ◌≤◌}
-use Rattle.counting.proofs.Common.{count_complement, mem}
+use Rattle.counting.proofs.Common.{All, List, Some, ap, arith, length, map, subst, subst₂, sym, unwrap_or, ℕ, ◌∙◌, ◌∷◌, ◌≡◌, ◌≤◌, count_complement, mem}
 use Rattle.graph_core.proofs.Common.{length-singles, Graph, IsGraph, singles, blocks_in}
 use Rattle.tree_core.proofs.Common.{few-leaves, partitions-leaves, fits-derivation, stands-derivation, IsDerivation, PlainLeafMap, maps_after, move_maps, own_maps, script_maps, then_map, StandsAt, leaves, PlainMove, move_result, Fits, Shape, cut, leaf, leaf_count}
 use Rattle.uncross.proofs.FollowedMaps.{paired_into}

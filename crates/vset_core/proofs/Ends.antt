@@ -1,11 +1,7 @@
 -- The least and the greatest member, and the least above a number, by the places of ones in the
 -- word: a one with zeros before it, a one with nothing above it, and the lowest one after a
 -- shift. The word of all numbers 1 to n has ones below n.
-use Rattle.std.proofs.Common.{◌≡◌, ℕ, zero, suc, ◌+◌, ◌-◌, ◌*◌, ◌/◌, ◌%◌, ◌^◌, ◌≤◌, ◌<◌, List, [], ◌↔◌, refl, sym, ◌∙◌, ap, arith, true, false, subst, inl, inr, pow_pos, shr-shr}
-use Rattle.std.specs.Int.{bit_at, w128, trailing_zeros}
-use Rattle.counting.proofs.Common.{cases_lt, mem-all, mem-outside, mem-rising_list, rising_list-rises, same_rising_list, set-wider, Within, IsNextAfter, mem, rising_list, everything}
-use Rattle.std.proofs.lemmas.Nat.{mod_below, pow_below, shr_le, shr_split}
-use Rattle.std.proofs.lemmas.Nat.Bits.{bit_at-trailing_zeros, bit_at_above, bit_at_ones, bit_at_ones_above, ones_shr}
+use Rattle.counting.proofs.Common.{◌≡◌, ℕ, zero, suc, ◌+◌, ◌-◌, ◌*◌, ◌/◌, ◌%◌, ◌^◌, ◌≤◌, ◌<◌, List, [], ◌↔◌, refl, sym, ◌∙◌, ap, arith, true, false, subst, inl, inr, pow_pos, shr-shr, bit_at, w128, trailing_zeros, mod_below, pow_below, shr_le, shr_split, bit_at-trailing_zeros, bit_at_above, bit_at_ones, bit_at_ones_above, ones_shr, cases_lt, mem-all, mem-outside, mem-rising_list, rising_list-rises, same_rising_list, set-wider, Within, IsNextAfter, mem, rising_list, everything}
 use Rattle.vset_core.specs.Words.{in_word, members}
 use Rattle.vset_core.specs.WordLaws.{members-rise, mem-members}
 use Rattle.vset_core.proofs.Words.{members-zero, seen}

@@ -2,8 +2,7 @@
 -- that is not open lead to found vertices, and a set that no arc from an inner vertex leaves
 -- contains what is found. So when no vertex is open, or nothing is left, what is found is the least
 -- closed set.
-use Rattle.std.proofs.Common.{◌≡◌, ◌∙◌, ◌+◌, ◌≤◌, ℕ, List, true, false, ◌==◌, ◌&&◌, ◌||◌, ◌⊎◌, not, refl, sym, arith, eq-eqb, inl, inr, ne_eqb}
-use Rattle.counting.proofs.Common.{and_parts, cases_Bool, cases_eq, count, count_more, or_cases, Set, Within}
+use Rattle.counting.proofs.Common.{◌≡◌, ◌∙◌, ◌+◌, ◌≤◌, ℕ, List, true, false, ◌==◌, ◌&&◌, ◌||◌, ◌⊎◌, not, refl, sym, arith, eq-eqb, inl, inr, ne_eqb, and_parts, cases_Bool, cases_eq, count, count_more, or_cases, Set, Within}
 use Rattle.vset_core.specs.Floods.{IsFlood, leads}
 
 -- the state between two steps: rest is what of `within` is not found

@@ -1,12 +1,8 @@
 -- The least member of a set and the set of the others, by the halves of its word. Idea: the bits of
 -- the low half are those up to 64, and the other bits are those of the high half. So the lowest one
 -- is that of the low half, or if this is 0, that of the high half.
-use Rattle.std.proofs.Common.{◌≡◌, ℕ, zero, suc, ◌+◌, ◌-◌, ◌*◌, ◌/◌, ◌%◌, ◌^◌, ◌≤◌, ◌<◌, ◌==◌, ◌&&◌, not, List, ◌∷◌, refl, sym, ◌∙◌, ap, ap₂, subst, subst₂, arith, Bool, true, false, bit_and, inl, inr, ne_eqb, eq-eqb, pow_pos}
+use Rattle.counting.proofs.Common.{◌≡◌, ℕ, zero, suc, ◌+◌, ◌-◌, ◌*◌, ◌/◌, ◌%◌, ◌^◌, ◌≤◌, ◌<◌, ◌==◌, ◌&&◌, not, List, ◌∷◌, refl, sym, ◌∙◌, ap, ap₂, subst, subst₂, arith, Bool, true, false, bit_and, inl, inr, ne_eqb, eq-eqb, pow_pos, count_leading_zeros, and_le_l, leading_top, mod_below, shr_split, bit_at-trailing_zeros, bit_at_above, bit_at_cat_low, bit_at_cat_high, cases_eq, cases_lt, first_is_least, split_least, IsGreatestOf, IsLeastOf, IsRisingIn, Set, Within, mem}
 use Rattle.std.specs.Int.{bit_at, w64, trailing_zeros}
-use Rattle.std.specs.Int.Count.{count_leading_zeros}
-use Rattle.std.proofs.lemmas.Nat.{and_le_l, leading_top, mod_below, shr_split}
-use Rattle.std.proofs.lemmas.Nat.Bits.{bit_at-trailing_zeros, bit_at_above, bit_at_cat_low, bit_at_cat_high}
-use Rattle.counting.proofs.Common.{cases_eq, cases_lt, first_is_least, split_least, IsGreatestOf, IsLeastOf, IsRisingIn, Set, Within, mem}
 use Rattle.vset_core.specs.Words.{in_word, members}
 use Rattle.vset_core.specs.WordLaws.{members-rise}
 use Rattle.vset_core.proofs.Ends.{no_bit, one_bit}

@@ -1,11 +1,7 @@
 -- A word and the word less 1 have all ones in common but the lowest. Idea: up to its lowest one the
 -- word is that one followed by zeros, and less 1 it is a zero followed by ones; the bits above are
 -- the same.
-use Rattle.std.proofs.Common.{◌≡◌, ℕ, zero, suc, ◌+◌, ◌-◌, ◌*◌, ◌/◌, ◌%◌, ◌^◌, ◌<◌, ◌==◌, ◌&&◌, not, refl, sym, ◌∙◌, ap, arith, Bool, true, bit_and, inl, inr, pow_pos, eq-eqb, ne_eqb}
-use Rattle.std.specs.Int.{bit_at}
-use Rattle.counting.proofs.Common.{cases_eq, cases_lt}
-use Rattle.std.proofs.lemmas.Nat.{mod_below, shr_split}
-use Rattle.std.proofs.lemmas.Nat.Bits.{bit_at-zero, bit_at_cat_low, bit_at_cat_high, bit_at_ones_above, same_from_bits_below}
+use Rattle.counting.proofs.Common.{◌≡◌, ℕ, zero, suc, ◌+◌, ◌-◌, ◌*◌, ◌/◌, ◌%◌, ◌^◌, ◌<◌, ◌==◌, ◌&&◌, not, refl, sym, ◌∙◌, ap, arith, Bool, true, bit_and, inl, inr, pow_pos, eq-eqb, ne_eqb, bit_at, mod_below, shr_split, bit_at-zero, bit_at_cat_low, bit_at_cat_high, bit_at_ones_above, same_from_bits_below, cases_eq, cases_lt}
 use Rattle.vset_core.specs.Words.{in_word}
 use Rattle.vset_core.proofs.Words.{in_word-and}
 

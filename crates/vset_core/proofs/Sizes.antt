@@ -1,10 +1,7 @@
 -- A word has as many ones as its set has members: with one bit more at the top, the ones below
 -- and that bit are counted apart, as the members up to n and the number n + 1 are.
-use Rattle.std.proofs.Common.{◌≡◌, ℕ, zero, suc, ◌+◌, ◌-◌, ◌*◌, ◌/◌, ◌%◌, ◌^◌, ◌<◌, length, sym, ◌∙◌, ap, arith, subst, pow_pos}
+use Rattle.counting.proofs.Common.{◌≡◌, ℕ, zero, suc, ◌+◌, ◌-◌, ◌*◌, ◌/◌, ◌%◌, ◌^◌, ◌<◌, length, sym, ◌∙◌, ap, arith, subst, pow_pos, mod_below, shr_below, shr_split, bit_at_cat_low, bit_at_cat_high, bit_at_lowest, count_congr, length-rising_list, bit, count}
 use Rattle.std.specs.Int.Count.{ones, ones_cat}
-use Rattle.std.proofs.lemmas.Nat.{mod_below, shr_below, shr_split}
-use Rattle.std.proofs.lemmas.Nat.Bits.{bit_at_cat_low, bit_at_cat_high, bit_at_lowest}
-use Rattle.counting.proofs.Common.{count_congr, length-rising_list, bit, count}
 use Rattle.vset_core.specs.Words.{in_word, members}
 use Rattle.vset_core.specs.WordLaws.{bit-in_word}
 

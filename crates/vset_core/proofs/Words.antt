@@ -1,11 +1,7 @@
 -- The operations on words are the operations on their sets: each says what the bits of the made
 -- word are, one bit at a time, and the list of the made word then has the numbers that the sets'
 -- tests say.
-use Rattle.std.proofs.Common.{◌≡◌, ℕ, zero, suc, ◌-◌, ◌*◌, ◌^◌, ◌≤◌, ◌<◌, ◌==◌, ◌||◌, ◌&&◌, not, List, [], ◌∷◌, refl, sym, ◌∙◌, ap, ap₂, arith, Bool, true, false, subst, eq-eqb, ne_eqb, inl, inr, bit_and, bit_or, min, max, bytes_eq}
-use Rattle.std.proofs.lemmas.Bool.Decides.{Decides-eqb, Decides-like, same_from_decides}
-use Rattle.counting.proofs.Common.{bytes_eq-Decides, and_parts, both_ways, cases_eq, cases_lt, not-true, true≢false, all_in_false, false_all_in, no_members, same_rising_list, set-one, Within, is_subset, mem}
-use Rattle.std.specs.Int.{bit_at, bit_not, w128}
-use Rattle.std.proofs.lemmas.Nat.Bits.{bit_at-lt, bit_at_and, bit_at_or, bit_at_not, bit_at-pow_same, bit_at-pow_other, bit_at-zero, and_pow, same_from_bits_below}
+use Rattle.counting.proofs.Common.{◌≡◌, ℕ, zero, suc, ◌-◌, ◌*◌, ◌^◌, ◌≤◌, ◌<◌, ◌==◌, ◌||◌, ◌&&◌, not, List, [], ◌∷◌, refl, sym, ◌∙◌, ap, ap₂, arith, Bool, true, false, subst, eq-eqb, ne_eqb, inl, inr, bit_and, bit_or, min, max, bytes_eq, Decides-eqb, Decides-like, same_from_decides, bit_at, bit_not, w128, bit_at-lt, bit_at_and, bit_at_or, bit_at_not, bit_at-pow_same, bit_at-pow_other, bit_at-zero, and_pow, same_from_bits_below, bytes_eq-Decides, and_parts, both_ways, cases_eq, cases_lt, not-true, true≢false, all_in_false, false_all_in, no_members, same_rising_list, set-one, Within, is_subset, mem}
 use Rattle.std.proofs.lemmas.Nat.{or_lt, and_le_l, pow_below, pow_pos}
 use Rattle.vset_core.specs.Words.{in_word, members, word_of_list}
 use Rattle.vset_core.specs.WordLaws.{word_of_list-members, in_word_above, mem-members, members-rise}

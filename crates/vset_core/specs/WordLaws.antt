@@ -7,7 +7,7 @@ use Rattle.std.specs.Int.{bit_at}
 use Rattle.std.proofs.lemmas.Bool.{cases_lt}
 use Rattle.std.proofs.lemmas.Nat.Bits.{bit_at-lt, bit_at_above, bit_at_cat_low, bit_at_cat_high, same_from_bits_below}
 use Rattle.counting.specs.Common.{bit, IsRisingIn, mem, rising_list, Set}
-use Rattle.counting.proofs.Common.{mem-outside, mem-rising_list, rising_list-rises}
+use Rattle.counting.proofs.RisingLists.{mem-outside, mem-rising_list, rising_list-rises}
 use Rattle.vset_core.specs.Words.{in_word, members, word_of, word_of_list}
 
 -- the highest bit of the word of n + 1 bits, before the word of n bits

@@ -1,5 +1,4 @@
-use Rattle.std.proofs.Common.{arith}
-use Rattle.counting.proofs.Common.{same_Some}
+use Rattle.counting.proofs.Common.{arith, same_Some}
 use Rattle.allowed_edges.proofs.ListedBases.{listed_with}
 use Rattle.allowed_edges.proofs.bases.listed_base.Goals as goal
 

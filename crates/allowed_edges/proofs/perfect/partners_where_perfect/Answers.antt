@@ -1,5 +1,4 @@
-use Rattle.std.proofs.Common.{List, ℕ, subst}
-use Rattle.counting.proofs.Common.{mem}
+use Rattle.counting.proofs.Common.{List, ℕ, subst, mem}
 use Rattle.match_core.specs.Common.{ArePartners}
 use Rattle.allowed_edges.proofs.perfect.partners_where_perfect.Goals as goal
 

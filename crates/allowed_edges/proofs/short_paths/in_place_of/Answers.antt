@@ -1,5 +1,4 @@
-use Rattle.std.proofs.Common.{◌==◌, ◌∙◌}
-use Rattle.counting.proofs.Common.{or_left, mem}
+use Rattle.counting.proofs.Common.{◌==◌, ◌∙◌, or_left, mem}
 use Rattle.match_core.specs.Common.{edges_of}
 use Rattle.allowed_edges.proofs.ShortPaths.{fewer_removed}
 use Rattle.allowed_edges.proofs.short_paths.in_place_of.Goals as goal

@@ -1,5 +1,4 @@
-use Rattle.std.proofs.Common.{arith}
-use Rattle.counting.proofs.Common.{or_parts}
+use Rattle.counting.proofs.Common.{arith, or_parts}
 use Rattle.allowed_edges.proofs.ShortPaths.{longer_matching, no_edge}
 use Rattle.allowed_edges.proofs.short_paths.with_edge.Goals as goal
 

@@ -1,5 +1,4 @@
-use Rattle.std.proofs.Common.{[], ◌∙◌, ◌&&◌, ap₂, sym, arith}
-use Rattle.counting.proofs.Common.{mem}
+use Rattle.counting.proofs.Common.{[], ◌∙◌, ◌&&◌, ap₂, sym, arith, mem}
 use Rattle.allowed_edges.specs.EdgeTables.{numbers_at}
 use Rattle.allowed_edges.proofs.HeldNumbers.{meets_listed, read_within}
 use Rattle.allowed_edges.proofs.table.has_common.Goals as goal

@@ -1,5 +1,4 @@
-use Rattle.std.proofs.Common.{◌≡◌, ℕ, ◌==◌, ◌&&◌, ◌||◌, length, map, take}
-use Rattle.counting.proofs.Common.{mem}
+use Rattle.counting.proofs.Common.{◌≡◌, ℕ, ◌==◌, ◌&&◌, ◌||◌, length, map, take, mem}
 use Rattle.match_core.proofs.MatchingEdges.{edge_of}
 use Rattle.allowed_edges.specs.EdgeTables.{numbers_at}
 use Rattle.allowed_edges.proofs.table.put_number.Given as goal

@@ -1,5 +1,4 @@
-use Rattle.std.proofs.Common.{◌≡◌, ◌∙◌, sym, subst, eqb-true, arith}
-use Rattle.counting.proofs.Common.{mem}
+use Rattle.counting.proofs.Common.{◌≡◌, ◌∙◌, sym, subst, eqb-true, arith, mem}
 use Rattle.graph_core.proofs.Common.{missed_count}
 use Rattle.match_core.specs.Common.{edges_of}
 use Rattle.allowed_edges.specs.PairTables.{IsPerfectWith}

@@ -1,5 +1,4 @@
-use Rattle.std.proofs.Common.{ℕ, ◌-◌}
-use Rattle.counting.proofs.Common.{Within}
+use Rattle.counting.proofs.Common.{ℕ, ◌-◌, Within}
 use Rattle.graph_core.proofs.Common.{Allowed}
 use Rattle.allowed_edges.proofs.verdict.first_unallowed.Given as goal
 

@@ -1,5 +1,4 @@
-use Rattle.std.proofs.Common.{eq-eqb, eqb-true, count_by, arith}
-use Rattle.counting.proofs.Common.{count_mem_length}
+use Rattle.counting.proofs.Common.{eq-eqb, eqb-true, count_by, arith, count_mem_length}
 use Rattle.barrier_kit.proofs.CutLists.{odd_parts-counted}
 use Rattle.barrier_kit.proofs.barrier.is_barrier.Goals as goal
 

@@ -1,5 +1,4 @@
-use Rattle.std.proofs.Common.{◌%◌, ◌==◌, ap, ◌∙◌, length}
-use Rattle.counting.proofs.Common.{odd_remainder}
+use Rattle.counting.proofs.Common.{◌%◌, ◌==◌, ap, ◌∙◌, length, odd_remainder}
 use Rattle.barrier_kit.proofs.barrier.is_odd_set.Goals as goal
 
 pub returns : goal.returns

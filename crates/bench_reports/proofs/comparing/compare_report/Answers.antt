@@ -1,5 +1,4 @@
-use Rattle.std.proofs.Common.{arith}
-use Rattle.counting.proofs.Common.{length-map}
+use Rattle.counting.proofs.Common.{arith, length-map}
 use Rattle.tree_core.proofs.Common.{shape_of, fits-derivation, stands-derivation, blocks-of_leaves, few-leaves_listed, few-nodes}
 use Rattle.bench_reports.proofs.comparing.compare_report.Goals as goal
 

@@ -1,7 +1,4 @@
-use Rattle.std.proofs.Common.{◌≡◌, ◌∙◌, ℕ, List, Some, map, length, slice_get, ap, arith, option_map}
-use Rattle.std.specs.Vec.Iter.{into_iter_items}
-use Rattle.counting.proofs.Common.{append-nil, length-map}
-use Rattle.std.proofs.lemmas.Option.{slice_get-map}
+use Rattle.counting.proofs.Common.{◌≡◌, ◌∙◌, ℕ, List, Some, map, length, slice_get, ap, arith, option_map, into_iter_items, slice_get-map, append-nil, length-map}
 use Rattle.contraction.specs.Partition.{PartitionValue}
 use Rattle.uncross.specs.Common.{map_of, maps_of}
 use Rattle.bench_outcomes.specs.Common.{map_lines_of}

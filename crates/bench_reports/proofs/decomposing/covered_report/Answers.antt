@@ -1,5 +1,4 @@
-use Rattle.std.proofs.Common.{◌≡◌, map, subst, inl}
-use Rattle.counting.proofs.Common.{IfOk-weaker}
+use Rattle.counting.proofs.Common.{◌≡◌, map, subst, inl, IfOk-weaker}
 use Rattle.graph_core.proofs.Common.{Graph}
 use Rattle.graph_text.specs.Common.{named_graph}
 use Rattle.tree_core.proofs.Common.{IsDerivation, leaves, place_of, shape_of}

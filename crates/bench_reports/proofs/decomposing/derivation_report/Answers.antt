@@ -1,5 +1,4 @@
-use Rattle.std.proofs.Common.{◌≡◌, ◌∙◌, ap, length, refl, arith}
-use Rattle.counting.proofs.Common.{length-map}
+use Rattle.counting.proofs.Common.{◌≡◌, ◌∙◌, ap, length, refl, arith, length-map}
 use Rattle.graph_text.specs.Common.{named_graph}
 use Rattle.tree_core.proofs.Common.{leaves, place_of, shape_of, fits-derivation, stands-derivation, few-nodes, leaf_count-cuts, length-leaves_at, node_count-cuts}
 use Rattle.graph_core.proofs.Common.{singles}

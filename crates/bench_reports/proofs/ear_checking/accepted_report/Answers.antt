@@ -1,5 +1,4 @@
-use Rattle.std.proofs.Common.{arith}
-use Rattle.counting.proofs.Common.{length-map}
+use Rattle.counting.proofs.Common.{arith, length-map}
 use Rattle.ear_core.specs.Common.{ears_of, step_of}
 use Rattle.bench_outcomes.proofs.EarSteps.{few-steps}
 use Rattle.bench_reports.proofs.ear_checking.accepted_report.Goals as goal

@@ -1,5 +1,4 @@
-use Rattle.std.proofs.Common.{ℕ, arith, subst₂, sym}
-use Rattle.counting.proofs.Common.{length-map}
+use Rattle.counting.proofs.Common.{ℕ, arith, subst₂, sym, length-map}
 use Rattle.ear_core.proofs.Stepping.{list-fits, list-filled}
 use Rattle.ear_core.specs.Common.{FitsEars, ears_of, step_of}
 use Rattle.bench_outcomes.proofs.EarSteps.{few-steps}

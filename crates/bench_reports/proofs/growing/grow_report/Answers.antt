@@ -1,5 +1,4 @@
-use Rattle.std.proofs.Common.{arith}
-use Rattle.counting.proofs.Common.{length-map}
+use Rattle.counting.proofs.Common.{arith, length-map}
 use Rattle.tree_core.proofs.Common.{leaf_count-cuts, length-leaves_at, node_count-cuts, few-nodes}
 use Rattle.uncross.specs.Common.{map_of}
 use Rattle.bench_outcomes.proofs.GrownSizes.{few-edges, few-vertices}

@@ -1,5 +1,4 @@
-use Rattle.std.proofs.Common.{◌<◌, Option, subst, arith}
-use Rattle.counting.proofs.Common.{mem}
+use Rattle.counting.proofs.Common.{◌<◌, Option, subst, arith, mem}
 use Rattle.bench_reports.specs.NodeSearch.{AreKeptSteps}
 use Rattle.bench_reports.specs.declared.node_places.Steps.{Steps}
 use Rattle.bench_reports.proofs.NodeSearches.{steps-merged}

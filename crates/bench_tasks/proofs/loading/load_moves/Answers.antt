@@ -1,5 +1,4 @@
-use Rattle.std.proofs.Common.{[], ◌∷◌, refl}
-use Rattle.counting.proofs.Common.{err_from_is_err_and}
+use Rattle.counting.proofs.Common.{[], ◌∷◌, refl, err_from_is_err_and}
 use Rattle.tree_core.proofs.Common.{moves_of}
 use Rattle.bench_tasks.specs.Common.{loaded_as, move_file, tree_given, place_name, given_tree, given_moves}
 use Rattle.bench_tasks.proofs.AnswersMade.{answered-both, answered-stopped, answered-stopped-second}

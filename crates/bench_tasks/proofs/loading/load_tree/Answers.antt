@@ -1,5 +1,4 @@
-use Rattle.std.proofs.Common.{[], ◌∷◌, refl}
-use Rattle.counting.proofs.Common.{err_from_is_err_and}
+use Rattle.counting.proofs.Common.{[], ◌∷◌, refl, err_from_is_err_and}
 use Rattle.graph_text.specs.Common.{named_graph}
 use Rattle.tree_core.proofs.Common.{shape_of}
 use Rattle.bench_tasks.specs.Common.{graph_file, loaded_as, tree_file, place_name, given_tree}

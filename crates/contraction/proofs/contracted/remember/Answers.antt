@@ -1,5 +1,4 @@
-use Rattle.std.proofs.Common.{ℕ, length, Vec, Global}
-use Rattle.counting.proofs.Common.{rising_list}
+use Rattle.counting.proofs.Common.{ℕ, length, Vec, Global, rising_list}
 use Rattle.graph_core.proofs.Common.{has_ends, graph_of}
 use Rattle.contraction.proofs.QuotientPairs.{ends_differ}
 use Rattle.contraction.proofs.PairLists.{kept-more}

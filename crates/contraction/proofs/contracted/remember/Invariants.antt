@@ -1,5 +1,4 @@
-use Rattle.std.proofs.Common.{◌≡◌, ℕ, length, map, take}
-use Rattle.counting.proofs.Common.{rising_list}
+use Rattle.counting.proofs.Common.{◌≡◌, ℕ, length, map, take, rising_list}
 use Rattle.graph_core.proofs.Common.{has_ends, graph_of, pair_of}
 use Rattle.indexmap.specs.IndexMap.{keys}
 use Rattle.contraction.proofs.contracted.remember.Given as goal

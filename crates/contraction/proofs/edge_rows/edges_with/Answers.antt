@@ -1,6 +1,4 @@
-use Rattle.std.proofs.Common.{◌∙◌, ap, arith}
-use Rattle.counting.proofs.Common.{row_of}
-use Rattle.std.proofs.lemmas.List.{take_all}
+use Rattle.counting.proofs.Common.{◌∙◌, ap, arith, take_all, row_of}
 use Rattle.contraction.proofs.EdgeRows.{found-all, found-more, hit, miss, row-edge}
 use Rattle.contraction.proofs.edge_rows.edges_with.Goals as goal
 use Rattle.contraction.proofs.edge_rows.edges_with.Goals.{then-are+in_ok-push, else-are}

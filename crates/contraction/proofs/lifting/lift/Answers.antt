@@ -1,5 +1,4 @@
-use Rattle.std.proofs.Common.{◌≡◌, ℕ, Bool, false, ◌||◌, ◌==◌, List, ap, ◌∙◌, subst, sym, All, arith}
-use Rattle.counting.proofs.Common.{list_any, IfOk-weaker, Within, mem}
+use Rattle.counting.proofs.Common.{◌≡◌, ℕ, Bool, false, ◌||◌, ◌==◌, List, ap, ◌∙◌, subst, sym, All, arith, list_any, IfOk-weaker, Within, mem}
 use Rattle.graph_core.proofs.Common.{size, IsPerfectAt, lifted}
 use Rattle.match_search.proofs.Marks.{no-marks}
 use Rattle.match_core.specs.Common.{edges_of}

@@ -1,5 +1,4 @@
-use Rattle.std.proofs.Common.{ℕ, ◌||◌, ◌==◌, sym, ap, ◌∙◌, take}
-use Rattle.counting.proofs.Common.{or_assoc, list_any}
+use Rattle.counting.proofs.Common.{ℕ, ◌||◌, ◌==◌, sym, ap, ◌∙◌, take, or_assoc, list_any}
 use Rattle.match_search.specs.Common.{marks}
 use Rattle.match_core.specs.declared.matching.MatchRow.{MatchRow}
 use Rattle.match_search.proofs.GrownRows.{with_put}

@@ -1,5 +1,4 @@
-use Rattle.std.proofs.Common.{◌≡◌, ℕ, ◌==◌, ◌||◌, length, take}
-use Rattle.counting.proofs.Common.{list_any}
+use Rattle.counting.proofs.Common.{◌≡◌, ℕ, ◌==◌, ◌||◌, length, take, list_any}
 use Rattle.match_search.specs.Common.{marks}
 use Rattle.match_core.specs.declared.matching.MatchRow.{MatchRow}
 use Rattle.contraction.specs.LeastEdges.{least_at}

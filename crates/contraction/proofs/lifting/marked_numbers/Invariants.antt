@@ -1,5 +1,4 @@
-use Rattle.std.proofs.Common.{◌≡◌}
-use Rattle.counting.proofs.Common.{rising_list}
+use Rattle.counting.proofs.Common.{◌≡◌, rising_list}
 use Rattle.match_search.specs.Common.{marks}
 use Rattle.contraction.proofs.lifting.marked_numbers.Given as goal
 

@@ -1,5 +1,4 @@
-use Rattle.std.proofs.Common.{◌≡◌, not, take, filter}
-use Rattle.counting.proofs.Common.{is_subset}
+use Rattle.counting.proofs.Common.{◌≡◌, not, take, filter, is_subset}
 use Rattle.contraction.proofs.partition.blocks_outside.Given as goal
 
 abbrev pub invariant-loop-block : goal.invariant-loop-block

@@ -1,9 +1,5 @@
-use Rattle.std.proofs.iter.Yields.{fronts}
-use Rattle.std.proofs.Common.{rules, ℕ, List, Bool}
-use Rattle.std.proofs.lemmas.Iterator.{YieldsList-from_slice}
-use Rattle.std.proofs.lemmas.Iterator.Consumers.{YieldsList-from_copied}
+use Rattle.counting.proofs.Common.{fronts, rules, ℕ, List, Bool, YieldsList-from_slice, YieldsList-from_copied, mem}
 use Rattle.itertools.proofs.ConsumerLemmas.{find_at-of-run}
-use Rattle.counting.proofs.Common.{mem}
 use Rattle.contraction.proofs.partition.first_holding.Goals as goal
 
 pub returns : goal.returns

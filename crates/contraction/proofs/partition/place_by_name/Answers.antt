@@ -1,5 +1,4 @@
-use Rattle.std.proofs.Common.{refl, ◌∙◌, nat_lt, length}
-use Rattle.counting.proofs.Common.{last_of}
+use Rattle.counting.proofs.Common.{refl, ◌∙◌, nat_lt, length, last_of}
 use Rattle.contraction.proofs.BlockLists.{position-length}
 use Rattle.contraction.proofs.partition.place_by_name.Goals as goal
 

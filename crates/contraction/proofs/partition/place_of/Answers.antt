@@ -1,6 +1,5 @@
-use Rattle.std.proofs.Common.{◌≡◌, ◌<◌, ◌+◌, ℕ, List, Option, Some, None, MatchOption, sym, arith, length, subst}
+use Rattle.counting.proofs.Common.{◌≡◌, ◌<◌, ◌+◌, ℕ, List, Option, Some, None, MatchOption, sym, arith, length, subst, mem}
 use Rattle.itertools.specs.Consumer.{find_at}
-use Rattle.counting.proofs.Common.{mem}
 use Rattle.graph_core.proofs.Common.{place}
 use Rattle.contraction.proofs.BlockLists.{place-find}
 use Rattle.contraction.proofs.partition.place_of.Goals as goal

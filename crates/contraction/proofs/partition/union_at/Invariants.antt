@@ -1,5 +1,4 @@
-use Rattle.std.proofs.Common.{◌≡◌, ℕ, ◌&&◌}
-use Rattle.counting.proofs.Common.{mem, some}
+use Rattle.counting.proofs.Common.{◌≡◌, ℕ, ◌&&◌, mem, some}
 use Rattle.graph_core.proofs.Common.{block}
 use Rattle.contraction.proofs.partition.union_at.Given as goal
 

@@ -1,5 +1,4 @@
-use Rattle.std.proofs.Common.{◌≡◌, ℕ, length, take, nat_lt, ◌&&◌}
-use Rattle.counting.proofs.Common.{list_any, Within, mem, item}
+use Rattle.counting.proofs.Common.{◌≡◌, ℕ, length, take, nat_lt, ◌&&◌, list_any, Within, mem, item}
 use Rattle.graph_core.proofs.Common.{are_ends}
 use Rattle.contraction.proofs.place_pairs.note_edges.Given as goal
 

@@ -1,5 +1,4 @@
-use Rattle.std.proofs.Common.{ap, ◌∙◌, arith, Result, IfOk, OnOk, List, ℕ, length}
-use Rattle.counting.proofs.Common.{item, mem}
+use Rattle.counting.proofs.Common.{ap, ◌∙◌, arith, Result, IfOk, OnOk, List, ℕ, length, item, mem}
 use Rattle.contraction.proofs.JoinedPairs.{rows-joined}
 use Rattle.contraction.proofs.place_pairs.pairs_joined.Goals as goal
 

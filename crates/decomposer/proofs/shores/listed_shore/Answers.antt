@@ -1,6 +1,4 @@
-use Rattle.std.proofs.Common.{ℕ, All, List, [], ap, sym, subst, ◌∙◌, slice_get, unwrap_or, Option, eqb-true, arith}
-use Rattle.std.proofs.lemmas.List.{nil_from_length}
-use Rattle.counting.proofs.Common.{none-some}
+use Rattle.counting.proofs.Common.{ℕ, All, List, [], ap, sym, subst, ◌∙◌, slice_get, unwrap_or, Option, eqb-true, arith, nil_from_length, none-some}
 use Rattle.tight_cuts.specs.Common.{Candidate, IsCandidateAt, candidate_of}
 use Rattle.tree_core.proofs.Common.{IsCutAt}
 use Rattle.decomposer.proofs.Picking.{picked-shore, some-stored, stored-length}

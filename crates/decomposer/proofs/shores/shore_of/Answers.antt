@@ -1,5 +1,4 @@
-use Rattle.std.proofs.Common.{List, Option, [], ℕ, ap, refl, sym, subst, ◌∙◌, unwrap_or, arith, option_map}
-use Rattle.counting.proofs.Common.{none-some}
+use Rattle.counting.proofs.Common.{List, Option, [], ℕ, ap, refl, sym, subst, ◌∙◌, unwrap_or, arith, option_map, none-some}
 use Rattle.tight_cuts.specs.Common.{candidates_at, candidate_of}
 use Rattle.tree_core.proofs.Common.{IsCutAt}
 use Rattle.tight_cuts.proofs.FirstCandidates.{first-place}

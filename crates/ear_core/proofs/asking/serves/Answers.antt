@@ -1,5 +1,4 @@
-use Rattle.std.proofs.Common.{rules}
-use Rattle.counting.proofs.Common.{true≢false, mem}
+use Rattle.counting.proofs.Common.{rules, true≢false, mem}
 use Rattle.match_core.specs.Common.{edges_of}
 use Rattle.ear_core.proofs.Searching.{asked-serves}
 use Rattle.ear_core.proofs.asking.serves.Goals as goal

@@ -1,5 +1,4 @@
-use Rattle.std.proofs.Common.{Bool, List, subst, ℕ}
-use Rattle.counting.proofs.Common.{Set}
+use Rattle.counting.proofs.Common.{Bool, List, subst, ℕ, Set}
 use Rattle.graph_core.proofs.Common.{Graph}
 use Rattle.match_search.specs.Common.{marks}
 use Rattle.ear_core.specs.Common.{GoesOn, IsBuilt, IsStep, row_edge, step_of}

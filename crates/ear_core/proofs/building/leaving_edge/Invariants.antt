@@ -1,5 +1,4 @@
-use Rattle.std.proofs.Common.{◌≡◌, ◌&&◌, ◌||◌, ℕ, false, not}
-use Rattle.counting.proofs.Common.{Within}
+use Rattle.counting.proofs.Common.{◌≡◌, ◌&&◌, ◌||◌, ℕ, false, not, Within}
 use Rattle.graph_core.proofs.Common.{first_end, second_end}
 use Rattle.match_search.specs.Common.{marks}
 use Rattle.ear_core.specs.Common.{is_met}

@@ -1,5 +1,4 @@
-use Rattle.std.proofs.Common.{ap, subst, sym, map, List, IfOk, arith}
-use Rattle.counting.proofs.Common.{IfOk-weaker, none}
+use Rattle.counting.proofs.Common.{ap, subst, sym, map, List, IfOk, arith, IfOk-weaker, none}
 use Rattle.match_search.specs.Common.{marks}
 use Rattle.ear_core.specs.Common.{AreCandidates, AreMatedEars, IsChosen, KeepsMates, row_edge, IsNeeded, IsSingle, IsStep, next_stage, is_met, ear_of, step_of}
 use Rattle.ear_core.specs.declared.ears.Ear.{Ear}

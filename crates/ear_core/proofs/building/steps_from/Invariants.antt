@@ -1,5 +1,4 @@
-use Rattle.std.proofs.Common.{◌≡◌}
-use Rattle.counting.proofs.Common.{complement, count}
+use Rattle.counting.proofs.Common.{◌≡◌, complement, count}
 use Rattle.graph_core.proofs.Common.{size}
 use Rattle.match_search.specs.Common.{marks}
 use Rattle.ear_core.specs.Common.{IsBuilt, row_edge}

@@ -1,5 +1,4 @@
-use Rattle.std.proofs.Common.{rules, ◌≡◌, ◌∷◌, ap, arith, subst, map, None}
-use Rattle.counting.proofs.Common.{count_le}
+use Rattle.counting.proofs.Common.{rules, ◌≡◌, ◌∷◌, ap, arith, subst, map, None, count_le}
 use Rattle.graph_core.proofs.Common.{size}
 use Rattle.match_search.specs.Common.{marks}
 use Rattle.ear_core.specs.Common.{IsAskedBefore, IsTaken, step_of}

@@ -1,5 +1,4 @@
-use Rattle.std.proofs.Common.{◌+◌, ◌≤◌, ℕ, length, map, Option}
-use Rattle.counting.proofs.Common.{AllByRecursion, count}
+use Rattle.counting.proofs.Common.{◌+◌, ◌≤◌, ℕ, length, map, Option, AllByRecursion, count}
 use Rattle.graph_core.proofs.Common.{size}
 use Rattle.match_search.specs.Common.{marks}
 use Rattle.ear_core.specs.Common.{FitsStep, IsAskedBefore, PlainWhy, IsJudged, IsMarked, IsStage, step_of}

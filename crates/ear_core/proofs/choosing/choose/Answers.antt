@@ -1,5 +1,4 @@
-use Rattle.std.proofs.Common.{◌≡◌, ◌∙◌, map, subst, sym, List, Option, Some, IfSome, rules}
-use Rattle.counting.proofs.Common.{Set}
+use Rattle.counting.proofs.Common.{◌≡◌, ◌∙◌, map, subst, sym, List, Option, Some, IfSome, rules, Set}
 use Rattle.graph_core.proofs.Common.{Graph, IsGraph}
 use Rattle.match_search.specs.Common.{marks}
 use Rattle.ear_core.specs.Common.{AreCandidates, FindsAlone, FindsTwo, IsAsked, IsChosen, IsStage, IsStep, NoTwoServe, NoneServes, PlainEar, ear_of, next_stage, one, step_of}

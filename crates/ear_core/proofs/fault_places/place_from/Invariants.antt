@@ -1,5 +1,4 @@
-use Rattle.std.proofs.Common.{◌≡◌, length, map}
-use Rattle.counting.proofs.Common.{AllByRecursion}
+use Rattle.counting.proofs.Common.{◌≡◌, length, map, AllByRecursion}
 use Rattle.graph_core.proofs.Common.{size}
 use Rattle.match_search.specs.Common.{marks}
 use Rattle.ear_core.specs.Common.{FitsStep, IsMarked, place_from, step_of}

@@ -1,5 +1,4 @@
-use Rattle.std.proofs.Common.{◌≡◌, ◌||◌, ◌∙◌, ap, not, Bool, Option, ℕ, arith, is_none, is_some}
-use Rattle.counting.proofs.Common.{mem}
+use Rattle.counting.proofs.Common.{◌≡◌, ◌||◌, ◌∙◌, ap, not, Bool, Option, ℕ, arith, is_none, is_some, mem}
 use Rattle.match_search.specs.Common.{marks}
 use Rattle.ear_core.proofs.FaultPlaces.{none-found}
 use Rattle.ear_core.proofs.faults.are_new.Goals as goal

@@ -1,5 +1,4 @@
-use Rattle.std.proofs.Common.{rules, ◌<◌, ◌||◌, ◌∙◌, length}
-use Rattle.counting.proofs.Common.{mem}
+use Rattle.counting.proofs.Common.{rules, ◌<◌, ◌||◌, ◌∙◌, length, mem}
 use Rattle.match_search.specs.Common.{marks}
 use Rattle.ear_core.proofs.FaultPlaces.{found-behind}
 use Rattle.ear_core.proofs.FirstFaults.{items-behind}

@@ -1,5 +1,4 @@
-use Rattle.std.proofs.Common.{◌≡◌, ◌<◌, ◌||◌, length, All, find}
-use Rattle.counting.proofs.Common.{mem}
+use Rattle.counting.proofs.Common.{◌≡◌, ◌<◌, ◌||◌, length, All, find, mem}
 use Rattle.match_search.specs.Common.{marks}
 use Rattle.ear_core.proofs.faults.first_used.Given as goal
 

@@ -1,5 +1,4 @@
-use Rattle.std.proofs.Common.{◌≡◌, length}
-use Rattle.counting.proofs.Common.{mem}
+use Rattle.counting.proofs.Common.{◌≡◌, length, mem}
 use Rattle.ear_core.proofs.faults.holds.Given as goal
 
 abbrev pub invariant-numbers : goal.invariant-numbers

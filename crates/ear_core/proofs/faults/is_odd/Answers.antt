@@ -1,5 +1,4 @@
-use Rattle.std.proofs.Common.{sym}
-use Rattle.counting.proofs.Common.{is_odd_remainder}
+use Rattle.counting.proofs.Common.{sym, is_odd_remainder}
 use Rattle.ear_core.proofs.faults.is_odd.Goals as goal
 
 pub returns : goal.returns

@@ -1,5 +1,4 @@
-use Rattle.std.proofs.Common.{◌≡◌, ◌≤◌}
-use Rattle.counting.proofs.Common.{count, mem, rising_list}
+use Rattle.counting.proofs.Common.{◌≡◌, ◌≤◌, count, mem, rising_list}
 use Rattle.match_search.specs.Common.{marks}
 use Rattle.match_core.specs.Common.{edges_of}
 use Rattle.ear_core.specs.Common.{by_rank}

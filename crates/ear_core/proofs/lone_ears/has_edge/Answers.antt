@@ -1,5 +1,4 @@
-use Rattle.std.proofs.Common.{rules, ◌≡◌, ◌∙◌, ◌+◌, ◌==◌, ◌||◌, ap, drop, false, map, sym, true}
-use Rattle.counting.proofs.Common.{or_left, mem}
+use Rattle.counting.proofs.Common.{rules, ◌≡◌, ◌∙◌, ◌+◌, ◌==◌, ◌||◌, ap, drop, false, map, sym, true, or_left, mem}
 use Rattle.match_core.specs.declared.matching.MatchRow.{MatchRow}
 use Rattle.ear_core.proofs.MarkedMatchings.{edges-at}
 use Rattle.ear_core.proofs.lone_ears.has_edge.Goals as goal

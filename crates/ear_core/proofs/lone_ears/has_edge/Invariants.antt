@@ -1,5 +1,4 @@
-use Rattle.std.proofs.Common.{◌≡◌, drop, map}
-use Rattle.counting.proofs.Common.{mem}
+use Rattle.counting.proofs.Common.{◌≡◌, drop, map, mem}
 use Rattle.match_core.specs.declared.matching.MatchRow.{MatchRow}
 use Rattle.ear_core.proofs.lone_ears.has_edge.Given as goal
 

@@ -1,5 +1,4 @@
-use Rattle.std.proofs.Common.{rules, ◌≡◌, ◌+◌, ◌∙◌, [], ap, arith, inl, inr, List, ℕ, subst, sym, true}
-use Rattle.counting.proofs.Common.{cases_eq, mem, true≢false, Within}
+use Rattle.counting.proofs.Common.{rules, ◌≡◌, ◌+◌, ◌∙◌, [], ap, arith, inl, inr, List, ℕ, subst, sym, true, cases_eq, mem, true≢false, Within}
 use Rattle.match_search.specs.Common.{marks}
 use Rattle.ear_core.specs.Common.{IsAsked, IsPerfectBy, is_met, is_open}
 use Rattle.ear_core.proofs.NextStages.{met-within}

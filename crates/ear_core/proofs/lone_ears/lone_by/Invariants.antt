@@ -1,5 +1,4 @@
-use Rattle.std.proofs.Common.{◌≡◌, ◌≢◌, ℕ, true}
-use Rattle.counting.proofs.Common.{Within, mem, Set}
+use Rattle.counting.proofs.Common.{◌≡◌, ◌≢◌, ℕ, true, Within, mem, Set}
 use Rattle.match_search.specs.Common.{marks}
 use Rattle.ear_core.specs.Common.{IsPerfectBy, is_met, is_open}
 use Rattle.ear_core.proofs.lone_ears.lone_by.Given as goal

@@ -1,7 +1,5 @@
-use Rattle.std.proofs.Common.{◌∙◌, subst, sym}
-use Rattle.std.proofs.Math.Path.{fun_ext}
+use Rattle.counting.proofs.Common.{◌∙◌, subst, sym, fun_ext, mem, Set}
 use Rattle.graph_core.proofs.Common.{Graph}
-use Rattle.counting.proofs.Common.{mem, Set}
 use Rattle.match_core.specs.Common.{ArePartners}
 use Rattle.ear_core.proofs.lone_ears.lone_matching.Goals as goal
 

@@ -1,5 +1,4 @@
-use Rattle.std.proofs.Common.{◌≡◌, ◌+◌, ℕ, length}
-use Rattle.counting.proofs.Common.{Within, mem, pair_set}
+use Rattle.counting.proofs.Common.{◌≡◌, ◌+◌, ℕ, length, Within, mem, pair_set}
 use Rattle.graph_core.proofs.Common.{size}
 use Rattle.match_search.specs.Common.{marks}
 use Rattle.ear_core.specs.Common.{is_open, is_met}

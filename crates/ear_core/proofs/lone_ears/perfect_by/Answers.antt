@@ -1,5 +1,4 @@
-use Rattle.std.proofs.Common.{subst, sym, List, All, ℕ}
-use Rattle.counting.proofs.Common.{Within, mem, none}
+use Rattle.counting.proofs.Common.{subst, sym, List, All, ℕ, Within, mem, none}
 use Rattle.graph_core.proofs.Common.{Graph, size, with_ends, HasPerfect, IsPerfect}
 use Rattle.match_core.specs.Common.{edges_of}
 use Rattle.match_search.specs.Common.{HasPerfectWith, HoldsAll, marks}

@@ -1,5 +1,4 @@
-use Rattle.std.proofs.Common.{◌∙◌, refl, subst, sym}
-use Rattle.counting.proofs.Common.{Within}
+use Rattle.counting.proofs.Common.{◌∙◌, refl, subst, sym, Within}
 use Rattle.match_search.specs.Common.{marks}
 use Rattle.ear_core.proofs.LoneTables.{near-step}
 use Rattle.ear_core.proofs.lone_tables.near_rows.Goals as goal

@@ -1,5 +1,4 @@
-use Rattle.std.proofs.Common.{◌≡◌, ◌&&◌, ℕ, not, length}
-use Rattle.counting.proofs.Common.{Within, item, mem, some}
+use Rattle.counting.proofs.Common.{◌≡◌, ◌&&◌, ℕ, not, length, Within, item, mem, some}
 use Rattle.graph_core.proofs.Common.{has_ends}
 use Rattle.match_search.specs.Common.{marks}
 use Rattle.ear_core.proofs.lone_tables.near_rows.Given as goal

@@ -1,5 +1,4 @@
-use Rattle.std.proofs.Common.{◌≡◌, ℕ}
-use Rattle.counting.proofs.Common.{mem}
+use Rattle.counting.proofs.Common.{◌≡◌, ℕ, mem}
 use Rattle.ear_core.specs.Common.{in_rows}
 use Rattle.ear_core.proofs.lone_tables.neighbours_of.Given as goal
 

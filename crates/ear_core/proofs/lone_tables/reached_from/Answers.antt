@@ -1,5 +1,4 @@
-use Rattle.std.proofs.Common.{◌∙◌, ap, List, ℕ}
-use Rattle.counting.proofs.Common.{item, mem}
+use Rattle.counting.proofs.Common.{◌∙◌, ap, List, ℕ, item, mem}
 use Rattle.ear_core.specs.Common.{in_rows}
 use Rattle.ear_core.proofs.LoneTables.{reached-is}
 use Rattle.ear_core.proofs.lone_tables.reached_from.Goals as goal

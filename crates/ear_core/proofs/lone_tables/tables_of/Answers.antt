@@ -1,5 +1,4 @@
-use Rattle.std.proofs.Common.{subst, sym}
-use Rattle.counting.proofs.Common.{mem}
+use Rattle.counting.proofs.Common.{subst, sym, mem}
 use Rattle.graph_core.proofs.Common.{Graph}
 use Rattle.match_core.specs.Common.{ArePartners, IsOf}
 use Rattle.match_search.specs.Common.{marks}

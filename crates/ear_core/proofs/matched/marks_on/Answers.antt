@@ -1,5 +1,4 @@
-use Rattle.std.proofs.Common.{◌≡◌, ◌∙◌, ap, inl, inr, sym}
-use Rattle.counting.proofs.Common.{cases_eq, mem}
+use Rattle.counting.proofs.Common.{◌≡◌, ◌∙◌, ap, inl, inr, sym, cases_eq, mem}
 use Rattle.match_core.specs.Common.{edges_of}
 use Rattle.match_search.specs.Common.{marks}
 use Rattle.ear_core.proofs.StageMates.{row-among}

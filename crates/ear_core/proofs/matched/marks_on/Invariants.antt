@@ -1,5 +1,4 @@
-use Rattle.std.proofs.Common.{◌≡◌, ℕ, length, true}
-use Rattle.counting.proofs.Common.{mem}
+use Rattle.counting.proofs.Common.{◌≡◌, ℕ, length, true, mem}
 use Rattle.match_core.specs.Common.{edges_of}
 use Rattle.match_search.specs.Common.{marks}
 use Rattle.ear_core.proofs.matched.marks_on.Given as goal

@@ -1,7 +1,6 @@
-use Rattle.std.proofs.Common.{◌≡◌, ap, subst, sym}
+use Rattle.counting.proofs.Common.{◌≡◌, ap, subst, sym, mem, IfOk-weaker, none, Set}
 use Rattle.graph_core.proofs.Common.{Graph, IsMatching}
 use Rattle.match_core.specs.Common.{edges_of}
-use Rattle.counting.proofs.Common.{mem, IfOk-weaker, none, Set}
 use Rattle.match_search.proofs.WholeGraphs.{limits_row, whole_graph}
 use Rattle.match_search.specs.Common.{HasMates, marks, numbers}
 use Rattle.ear_core.proofs.StageMates.{part-matching}

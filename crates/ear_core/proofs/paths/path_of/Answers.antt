@@ -1,5 +1,4 @@
-use Rattle.std.proofs.Common.{rules, ◌≡◌, ◌∙◌, ◌||◌, ap, sym, subst, true, false, All, arith, ℕ}
-use Rattle.counting.proofs.Common.{or_false, Within, mem}
+use Rattle.counting.proofs.Common.{rules, ◌≡◌, ◌∙◌, ◌||◌, ap, sym, subst, true, false, All, arith, ℕ, or_false, Within, mem}
 use Rattle.graph_core.proofs.Common.{size}
 use Rattle.ear_core.specs.Common.{inner_vertices, last_vertex}
 use Rattle.ear_core.proofs.FirstFaults.{first-item}

@@ -1,5 +1,4 @@
-use Rattle.std.proofs.Common.{subst, sym}
-use Rattle.counting.proofs.Common.{Within}
+use Rattle.counting.proofs.Common.{subst, sym, Within}
 use Rattle.match_search.proofs.Instances.{first_in}
 use Rattle.ear_core.proofs.stage.write_rows.Goals as goal
 

@@ -1,5 +1,4 @@
-use Rattle.std.proofs.Common.{◌∙◌, sym}
-use Rattle.counting.proofs.Common.{true≢false}
+use Rattle.counting.proofs.Common.{◌∙◌, sym, true≢false}
 use Rattle.ear_core.proofs.MatchedStages.{partners-allowed, row-says, says-row}
 use Rattle.ear_core.proofs.stages.is_allowed_by.Goals as goal
 

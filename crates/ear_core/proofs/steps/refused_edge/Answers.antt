@@ -1,5 +1,4 @@
-use Rattle.std.proofs.Common.{◌≡◌, ◌∙◌, All, ap, ap₂, subst, sym, true, List, ℕ}
-use Rattle.counting.proofs.Common.{none}
+use Rattle.counting.proofs.Common.{◌≡◌, ◌∙◌, All, ap, ap₂, subst, sym, true, List, ℕ, none}
 use Rattle.match_search.specs.Common.{marks}
 use Rattle.ear_core.specs.Common.{IsAsked, next_stage, with_edges, ear_of, plain_step, step_of, Settled}
 use Rattle.ear_core.specs.declared.ears.Ear.{Ear}

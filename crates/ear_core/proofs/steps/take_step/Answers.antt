@@ -1,6 +1,4 @@
-use Rattle.std.proofs.Common.{◌≡◌, ◌∙◌, ap, inr, refl, subst, sym, Bool, List, None, ℕ}
-use Rattle.std.proofs.Math.Path.{fun_ext}
-use Rattle.counting.proofs.Common.{none}
+use Rattle.counting.proofs.Common.{◌≡◌, ◌∙◌, ap, inr, refl, subst, sym, Bool, List, None, ℕ, fun_ext, none}
 use Rattle.graph_core.proofs.Common.{size}
 use Rattle.match_search.specs.Common.{marks}
 use Rattle.ear_core.specs.Common.{IsAskedBefore, Settled, ear_of, next_stage, step_fault, step_of}

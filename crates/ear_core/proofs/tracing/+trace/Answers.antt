@@ -1,5 +1,4 @@
-use Rattle.std.proofs.Common.{rules, ◌≡◌, ◌∙◌, ◌++◌, ◌∷◌, [], ap, arith, true, false, List, ℕ}
-use Rattle.counting.proofs.Common.{IfOk-weaker, mem}
+use Rattle.counting.proofs.Common.{rules, ◌≡◌, ◌∙◌, ◌++◌, ◌∷◌, [], ap, arith, true, false, List, ℕ, IfOk-weaker, mem}
 use Rattle.ear_core.specs.Common.{row_edge, IsTraced}
 use Rattle.ear_core.proofs.Mates.{rows-mates}
 use Rattle.ear_core.proofs.Following.{GoesOn, goes-on, passed-by, traced-short}

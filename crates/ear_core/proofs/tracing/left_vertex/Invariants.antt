@@ -1,5 +1,4 @@
-use Rattle.std.proofs.Common.{◌≡◌, ℕ, false}
-use Rattle.counting.proofs.Common.{Within, mem}
+use Rattle.counting.proofs.Common.{◌≡◌, ℕ, false, Within, mem}
 use Rattle.match_search.specs.Common.{marks}
 use Rattle.ear_core.specs.Common.{is_left, row_edge}
 use Rattle.ear_core.proofs.tracing.left_vertex.Given as goal

@@ -1,6 +1,5 @@
 -- A closed search gives the least minimum cut; a flow above the bound rules out each cut within it.
-use Rattle.std.proofs.Common.{arith}
-use Rattle.counting.proofs.Common.{mem}
+use Rattle.counting.proofs.Common.{arith, mem}
 use Rattle.flow_core.proofs.Duality.{flow-le-value_of}
 use Rattle.flow_core.proofs.cut.min_cut.Goals as goal
 

@@ -1,5 +1,4 @@
-use Rattle.std.proofs.Common.{arith}
-use Rattle.counting.proofs.Common.{map-append}
+use Rattle.counting.proofs.Common.{arith, map-append}
 use Rattle.graph6_text.proofs.Columns.{column_more}
 use Rattle.graph6_text.proofs.pairs.push_column.Goals as goal
 

@@ -1,5 +1,4 @@
-use Rattle.std.proofs.Common.{◌+◌, ◌++◌, ◌∙◌, drop, sym, arith}
-use Rattle.counting.proofs.Common.{err_from_is_err_and}
+use Rattle.counting.proofs.Common.{◌+◌, ◌++◌, ◌∙◌, drop, sym, arith, err_from_is_err_and}
 use Rattle.graph6_text.specs.Common.{bits_of, chosen, chosen_one, column}
 use Rattle.graph6_text.proofs.Choosing.{longer_limit}
 use Rattle.graph6_text.proofs.ChosenColumns.{column_read_more, column_chosen_all}

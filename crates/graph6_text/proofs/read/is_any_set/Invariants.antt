@@ -1,5 +1,4 @@
-use Rattle.std.proofs.Common.{◌≡◌, drop}
-use Rattle.counting.proofs.Common.{list_any}
+use Rattle.counting.proofs.Common.{◌≡◌, drop, list_any}
 use Rattle.graph6_text.specs.Common.{bits_of}
 use Rattle.graph6_text.proofs.read.is_any_set.Given as goal
 

@@ -1,5 +1,4 @@
-use Rattle.std.proofs.Common.{◌≡◌, sym, ap, ◌∙◌, nat_le, ◌&&◌, Bool, false, arith}
-use Rattle.counting.proofs.Common.{le-leb, lt-leb}
+use Rattle.counting.proofs.Common.{◌≡◌, sym, ap, ◌∙◌, nat_le, ◌&&◌, Bool, false, arith, le-leb, lt-leb}
 use Rattle.graph_core.proofs.CutLists.{length-in, nontrivial-length}
 use Rattle.graph_core.proofs.cuts.is_nontrivial.Goals as goal
 

@@ -1,5 +1,4 @@
-use Rattle.std.proofs.Common.{subst, sym}
-use Rattle.counting.proofs.Common.{none}
+use Rattle.counting.proofs.Common.{subst, sym, none}
 use Rattle.graph_core.proofs.SingleBlocks.{contracted-singles, singles-tight, tight-singles}
 use Rattle.graph_core.proofs.Singles.{singles-partition}
 use Rattle.graph_core.specs.Common.{IsPerfect}

@@ -1,5 +1,4 @@
-use Rattle.std.proofs.Common.{◌≡◌, ◌+◌, ◌*◌, ℕ, length, false}
-use Rattle.counting.proofs.Common.{Within, count, mem}
+use Rattle.counting.proofs.Common.{◌≡◌, ◌+◌, ◌*◌, ℕ, length, false, Within, count, mem}
 use Rattle.graph_core.specs.Common.{Graph, IsGraph, IsGrowth, node_at, parent_at, depth_at, AreRows}
 use Rattle.graph_core.proofs.search.grow.Given as goal
 

@@ -1,5 +1,4 @@
-use Rattle.std.proofs.Common.{length}
-use Rattle.counting.proofs.Common.{count, mem}
+use Rattle.counting.proofs.Common.{length, count, mem}
 use Rattle.graph_core.specs.Common.{Graph, IsGraph, AreRows}
 use Rattle.graph_core.proofs.FoundComponents.{AreFirst}
 use Rattle.graph_core.proofs.search.parts_without.Given as goal

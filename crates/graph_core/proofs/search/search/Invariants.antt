@@ -1,5 +1,4 @@
-use Rattle.std.proofs.Common.{length}
-use Rattle.counting.proofs.Common.{count, mem}
+use Rattle.counting.proofs.Common.{length, count, mem}
 use Rattle.graph_core.specs.Common.{Graph, IsGraph, IsComponentStage, parent_at, depth_at, AreRows}
 use Rattle.graph_core.proofs.search.search.Given as goal
 

@@ -1,6 +1,4 @@
-use Rattle.std.proofs.Common.{true, arith, length}
-use Rattle.counting.proofs.Common.{cases_eq, true≢false}
-use Rattle.std.proofs.lemmas.List.{get_or_default}
+use Rattle.counting.proofs.Common.{true, arith, length, get_or_default, cases_eq, true≢false}
 use Rattle.graph_core.proofs.View.{ends_within}
 use Rattle.graph_core.proofs.sides.level_edge.Goals as goal
 

@@ -1,5 +1,4 @@
-use Rattle.std.proofs.Common.{◌≡◌, ◌++◌, length}
-use Rattle.counting.proofs.Common.{Within}
+use Rattle.counting.proofs.Common.{◌≡◌, ◌++◌, length, Within}
 use Rattle.graph_core.specs.Common.{parent_at, depth_at, way_up}
 use Rattle.graph_core.proofs.tree.climb.Given as goal
 

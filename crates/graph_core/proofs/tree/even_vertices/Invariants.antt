@@ -1,5 +1,4 @@
-use Rattle.std.proofs.Common.{◌≡◌}
-use Rattle.counting.proofs.Common.{rising_list}
+use Rattle.counting.proofs.Common.{◌≡◌, rising_list}
 use Rattle.graph_core.specs.Common.{is_even_at}
 use Rattle.graph_core.proofs.tree.even_vertices.Given as goal
 

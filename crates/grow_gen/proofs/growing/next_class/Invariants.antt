@@ -1,5 +1,4 @@
-use Rattle.std.proofs.Common.{◌≡◌, ℕ, ◌==◌, ◌&&◌, ◌||◌, not, take, map}
-use Rattle.counting.proofs.Common.{mem}
+use Rattle.counting.proofs.Common.{◌≡◌, ℕ, ◌==◌, ◌&&◌, ◌||◌, not, take, map, mem}
 use Rattle.grow_gen.specs.Common.{new_number}
 use Rattle.grow_gen.proofs.growing.next_class.Given as goal
 

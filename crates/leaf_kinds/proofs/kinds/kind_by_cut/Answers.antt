@@ -1,5 +1,4 @@
-use Rattle.std.proofs.Common.{◌∙◌, sym}
-use Rattle.counting.proofs.Common.{both_ways}
+use Rattle.counting.proofs.Common.{◌∙◌, sym, both_ways}
 use Rattle.leaf_kinds.proofs.kinds.kind_by_cut.Goals as goal
 
 pub returns-in-Some-clause-kind : goal.returns-in-Some-clause-kind

@@ -1,5 +1,4 @@
-use Rattle.std.proofs.Common.{◌≡◌, take, filter}
-use Rattle.counting.proofs.Common.{mem}
+use Rattle.counting.proofs.Common.{◌≡◌, take, filter, mem}
 use Rattle.match_core.specs.Common.{is_clear}
 use Rattle.match_core.proofs.matching.clear_rows.Given as goal
 

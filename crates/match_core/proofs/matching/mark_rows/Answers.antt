@@ -1,5 +1,4 @@
-use Rattle.std.proofs.Common.{◌≡◌, Bool, false, ◌||◌, ◌==◌, ◌∷◌, [], sym, ap, ◌∙◌, get_or, take, map, arith}
-use Rattle.counting.proofs.Common.{take_more, map-append, mem-append, mem}
+use Rattle.counting.proofs.Common.{◌≡◌, Bool, false, ◌||◌, ◌==◌, ◌∷◌, [], sym, ap, ◌∙◌, get_or, take, map, arith, take_more, map-append, mem-append, mem}
 use Rattle.match_search.specs.Common.{marks}
 use Rattle.match_core.specs.declared.matching.MatchRow.{MatchRow}
 use Rattle.match_search.proofs.GrownRows.{with_put}

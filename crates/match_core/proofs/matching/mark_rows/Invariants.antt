@@ -1,5 +1,4 @@
-use Rattle.std.proofs.Common.{◌≡◌, ℕ, length, take, map, ◌||◌}
-use Rattle.counting.proofs.Common.{mem}
+use Rattle.counting.proofs.Common.{◌≡◌, ℕ, length, take, map, ◌||◌, mem}
 use Rattle.match_search.specs.Common.{marks}
 use Rattle.match_core.proofs.MatchingEdges.{edge_of}
 use Rattle.match_core.proofs.matching.mark_rows.Given as goal

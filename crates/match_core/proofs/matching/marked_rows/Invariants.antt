@@ -1,5 +1,4 @@
-use Rattle.std.proofs.Common.{◌≡◌, map}
-use Rattle.counting.proofs.Common.{rising_list}
+use Rattle.counting.proofs.Common.{◌≡◌, map, rising_list}
 use Rattle.graph_core.proofs.Common.{graph_of}
 use Rattle.match_search.specs.Common.{marks}
 use Rattle.match_core.specs.Common.{row_at}

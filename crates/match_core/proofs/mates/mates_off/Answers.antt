@@ -1,6 +1,4 @@
-use Rattle.std.proofs.Common.{arith}
-use Rattle.std.proofs.lemmas.List.{with_items_is}
-use Rattle.counting.proofs.Common.{mem}
+use Rattle.counting.proofs.Common.{arith, with_items_is, mem}
 use Rattle.match_core.proofs.RowMates.{named_rows}
 use Rattle.match_core.proofs.mates.mates_off.Goals as goal
 

@@ -1,5 +1,4 @@
-use Rattle.std.proofs.Common.{◌≡◌, length}
-use Rattle.counting.proofs.Common.{mem}
+use Rattle.counting.proofs.Common.{◌≡◌, length, mem}
 use Rattle.match_core.specs.HeldMates.{NamesRows}
 use Rattle.match_core.proofs.mates.write_rows.Given as goal
 

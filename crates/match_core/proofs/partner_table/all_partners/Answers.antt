@@ -1,5 +1,4 @@
-use Rattle.std.proofs.Common.{List, ℕ, subst}
-use Rattle.counting.proofs.Common.{IfOk-weaker, mem, none}
+use Rattle.counting.proofs.Common.{List, ℕ, subst, IfOk-weaker, mem, none}
 use Rattle.match_core.specs.Common.{ArePartners}
 use Rattle.match_core.proofs.partner_table.all_partners.Goals as goal
 

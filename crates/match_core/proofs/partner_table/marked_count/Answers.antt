@@ -1,5 +1,4 @@
-use Rattle.std.proofs.Common.{◌-◌, arith}
-use Rattle.counting.proofs.Common.{count_le}
+use Rattle.counting.proofs.Common.{◌-◌, arith, count_le}
 use Rattle.match_search.specs.Common.{marks}
 use Rattle.match_core.proofs.partner_table.marked_count.Goals as goal
 

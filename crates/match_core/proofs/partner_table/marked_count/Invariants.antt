@@ -1,5 +1,4 @@
-use Rattle.std.proofs.Common.{◌≡◌, ◌-◌}
-use Rattle.counting.proofs.Common.{count}
+use Rattle.counting.proofs.Common.{◌≡◌, ◌-◌, count}
 use Rattle.match_search.specs.Common.{marks}
 use Rattle.match_core.proofs.partner_table.marked_count.Given as goal
 

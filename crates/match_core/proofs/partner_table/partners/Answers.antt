@@ -1,5 +1,4 @@
-use Rattle.std.proofs.Common.{sym, ◌∙◌}
-use Rattle.counting.proofs.Common.{IfOk-weaker, mem}
+use Rattle.counting.proofs.Common.{sym, ◌∙◌, IfOk-weaker, mem}
 use Rattle.match_core.specs.Common.{AreEmptyRows, ArePartners}
 use Rattle.match_core.proofs.PartnerRows.{empty-partners}
 use Rattle.match_core.proofs.partner_table.partners.Goals as goal

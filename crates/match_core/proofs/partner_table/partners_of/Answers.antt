@@ -1,5 +1,4 @@
-use Rattle.std.proofs.Common.{sym, ◌∙◌}
-use Rattle.counting.proofs.Common.{IfOk-weaker, mem}
+use Rattle.counting.proofs.Common.{sym, ◌∙◌, IfOk-weaker, mem}
 use Rattle.match_core.proofs.PartnerRows.{missable-partners}
 use Rattle.match_core.proofs.partner_table.partners_of.Goals as goal
 

@@ -1,5 +1,4 @@
-use Rattle.std.proofs.Common.{◌≡◌, ℕ, ◌+◌, length, take}
-use Rattle.counting.proofs.Common.{mem}
+use Rattle.counting.proofs.Common.{◌≡◌, ℕ, ◌+◌, length, take, mem}
 use Rattle.match_search.specs.Common.{marks, MeetOnce}
 use Rattle.match_core.proofs.questions.ends_met.Given as goal
 

@@ -1,5 +1,4 @@
-use Rattle.std.proofs.Common.{◌≡◌, sym, ap, ◌∙◌, subst}
-use Rattle.counting.proofs.Common.{mem, Within, none, rising_holds}
+use Rattle.counting.proofs.Common.{◌≡◌, sym, ap, ◌∙◌, subst, mem, Within, none, rising_holds}
 use Rattle.graph_core.proofs.Common.{size, IsPerfect}
 use Rattle.match_search.specs.Common.{marks}
 use Rattle.match_core.specs.Common.{edges_of, MatchingValue}

@@ -1,5 +1,4 @@
-use Rattle.std.proofs.Common.{◌≡◌, ℕ, ◌&&◌, ◌==◌, not, nat_lt, nat_le}
-use Rattle.counting.proofs.Common.{mem}
+use Rattle.counting.proofs.Common.{◌≡◌, ℕ, ◌&&◌, ◌==◌, not, nat_lt, nat_le, mem}
 use Rattle.match_search.specs.Common.{numbers}
 use Rattle.match_core.proofs.repairs.free.Given as goal
 

@@ -1,6 +1,4 @@
-use Rattle.std.proofs.Common.{◌≡◌, ℕ, suc, ◌+◌, ◌==◌, ◌&&◌, not, Bool, true, false, List, slice_index_or, eq-eqb, eqb-true, sym, ap, ap₂, ◌∙◌, subst, subst₂, arith}
-use Rattle.std.proofs.lemmas.List.{with_items_is}
-use Rattle.counting.proofs.Common.{both_ways}
+use Rattle.counting.proofs.Common.{◌≡◌, ℕ, suc, ◌+◌, ◌==◌, ◌&&◌, not, Bool, true, false, List, slice_index_or, eq-eqb, eqb-true, sym, ap, ap₂, ◌∙◌, subst, subst₂, arith, with_items_is, both_ways}
 use Rattle.graph_core.specs.declared.ends.Ends.{Ends}
 use Rattle.match_search.specs.Common.{numbers, with_mate}
 use Rattle.match_search.proofs.GreedyMates.{no-mates}

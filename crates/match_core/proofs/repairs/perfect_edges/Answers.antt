@@ -1,6 +1,4 @@
-use Rattle.std.proofs.Common.{◌≡◌, ℕ, List, sym, ◌∙◌, subst, arith}
-use Rattle.std.proofs.lemmas.List.{with_items_is}
-use Rattle.counting.proofs.Common.{mem}
+use Rattle.counting.proofs.Common.{◌≡◌, ℕ, List, sym, ◌∙◌, subst, arith, with_items_is, mem}
 use Rattle.graph_core.proofs.Common.{graph_of}
 use Rattle.match_search.specs.Common.{HasMates, numbers}
 use Rattle.match_search.proofs.GraphRows.{row_graph}

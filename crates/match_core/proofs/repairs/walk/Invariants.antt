@@ -1,5 +1,4 @@
-use Rattle.std.proofs.Common.{ℕ, ◌+◌, ◌-◌, length}
-use Rattle.counting.proofs.Common.{Set}
+use Rattle.counting.proofs.Common.{ℕ, ◌+◌, ◌-◌, length, Set}
 use Rattle.graph_core.proofs.Common.{graph_of}
 use Rattle.match_search.specs.Common.{IsWalk}
 use Rattle.match_core.specs.Common.{StartsWalk}

@@ -1,5 +1,4 @@
-use Rattle.std.proofs.Common.{◌≡◌, ℕ, true, ◌⊎◌, length}
-use Rattle.counting.proofs.Common.{mem}
+use Rattle.counting.proofs.Common.{◌≡◌, ℕ, true, ◌⊎◌, length, mem}
 use Rattle.match_search.specs.Common.{numbers}
 use Rattle.match_search.proofs.alternating.exposed_in.Given as goal
 

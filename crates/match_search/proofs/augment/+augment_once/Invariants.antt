@@ -1,5 +1,4 @@
-use Rattle.std.proofs.Common.{length}
-use Rattle.counting.proofs.Common.{count, mem}
+use Rattle.counting.proofs.Common.{length, count, mem}
 use Rattle.match_search.proofs.augment.+augment_once.Given as goal
 
 abbrev pub decreases-augment_once : goal.decreases-augment_once

@@ -1,6 +1,4 @@
-use Rattle.std.proofs.Common.{rules, ◌≡◌, ℕ, suc, ◌+◌, ◌==◌, ◌||◌, true, refl, sym, ap, ◌∙◌, arith, inl, eq-eqb, length, List}
-use Rattle.std.proofs.lemmas.List.{with_items_is}
-use Rattle.counting.proofs.Common.{both_ways, none, put, mem}
+use Rattle.counting.proofs.Common.{rules, ◌≡◌, ℕ, suc, ◌+◌, ◌==◌, ◌||◌, true, refl, sym, ap, ◌∙◌, arith, inl, eq-eqb, length, List, with_items_is, both_ways, none, put, mem}
 use Rattle.graph_core.proofs.Common.{graph_of}
 use Rattle.match_search.specs.Common.{numbers, end_a, end_b, with_pair}
 use Rattle.match_search.proofs.ClosingPairs.{mates_alike}

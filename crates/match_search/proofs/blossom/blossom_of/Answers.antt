@@ -1,5 +1,4 @@
-use Rattle.std.proofs.Common.{◌≡◌, ℕ, suc, ◌+◌, ◌-◌, ◌<◌, refl, sym, ap, arith, subst, length, List}
-use Rattle.counting.proofs.Common.{Within}
+use Rattle.counting.proofs.Common.{◌≡◌, ℕ, suc, ◌+◌, ◌-◌, ◌<◌, refl, sym, ap, arith, subst, length, List, Within}
 use Rattle.match_search.specs.Common.{numbers}
 use Rattle.match_search.proofs.ClosedCycles.{cycle_exposes, blossom_cycle_holds, cycle_within, stem_half}
 use Rattle.match_search.proofs.ClosingPairs.{second_in}

@@ -1,5 +1,4 @@
-use Rattle.std.proofs.Common.{◌≡◌, ℕ, false}
-use Rattle.counting.proofs.Common.{Within, mem}
+use Rattle.counting.proofs.Common.{◌≡◌, ℕ, false, Within, mem}
 use Rattle.match_search.specs.Common.{numbers}
 use Rattle.match_search.proofs.blossom.place_in.Given as goal
 

@@ -1,5 +1,4 @@
-use Rattle.std.proofs.Common.{◌≡◌, ℕ}
-use Rattle.counting.proofs.Common.{mem}
+use Rattle.counting.proofs.Common.{◌≡◌, ℕ, mem}
 use Rattle.match_search.specs.Common.{listed, numbers}
 use Rattle.match_search.proofs.cycle.members_of.Given as goal
 

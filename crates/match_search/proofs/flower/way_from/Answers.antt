@@ -1,5 +1,4 @@
-use Rattle.std.proofs.Common.{ap, ◌||◌, ◌==◌, ◌∙◌, sym, subst, arith, ne_eqb, ℕ, [], ◌∷◌}
-use Rattle.counting.proofs.Common.{or_false}
+use Rattle.counting.proofs.Common.{ap, ◌||◌, ◌==◌, ◌∙◌, sym, subst, arith, ne_eqb, ℕ, [], ◌∷◌, or_false}
 use Rattle.match_search.specs.Common.{IsLastIn, numbers}
 use Rattle.match_search.proofs.FlowerPaths.{last_more}
 use Rattle.match_search.proofs.ForestWalks.{climbs, goes_on}

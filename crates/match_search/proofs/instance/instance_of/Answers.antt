@@ -1,5 +1,4 @@
-use Rattle.std.proofs.Common.{◌≡◌, ℕ, sym, ◌∙◌, arith, length, subst, not, ◌&&◌, nat_lt, nat_le}
-use Rattle.counting.proofs.Common.{mem}
+use Rattle.counting.proofs.Common.{◌≡◌, ℕ, sym, ◌∙◌, arith, length, subst, not, ◌&&◌, nat_lt, nat_le, mem}
 use Rattle.graph_core.proofs.Common.{AreRows}
 use Rattle.match_search.proofs.Instances.{full_left, whole_instance}
 use Rattle.match_search.proofs.instance.instance_of.Goals as goal

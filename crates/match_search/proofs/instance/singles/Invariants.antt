@@ -1,5 +1,4 @@
-use Rattle.std.proofs.Common.{◌≡◌, ℕ, length, [], ◌∷◌}
-use Rattle.counting.proofs.Common.{Within, item}
+use Rattle.counting.proofs.Common.{◌≡◌, ℕ, length, [], ◌∷◌, Within, item}
 use Rattle.match_search.proofs.instance.singles.Given as goal
 
 abbrev pub invariant-loop-i : goal.invariant-loop-i

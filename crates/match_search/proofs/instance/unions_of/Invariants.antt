@@ -1,5 +1,4 @@
-use Rattle.std.proofs.Common.{◌≡◌, ℕ, true, length, ◌⊎◌}
-use Rattle.counting.proofs.Common.{mem, item}
+use Rattle.counting.proofs.Common.{◌≡◌, ℕ, true, length, ◌⊎◌, mem, item}
 use Rattle.match_search.proofs.instance.unions_of.Given as goal
 
 abbrev pub invariant-uniting : goal.invariant-uniting

@@ -1,5 +1,4 @@
-use Rattle.std.proofs.Common.{◌-◌, arith}
-use Rattle.counting.proofs.Common.{count_le}
+use Rattle.counting.proofs.Common.{◌-◌, arith, count_le}
 use Rattle.match_search.proofs.missable.exposed_count.Goals as goal
 
 pub overflow_add-found : goal.overflow_add-found

@@ -1,5 +1,4 @@
-use Rattle.std.proofs.Common.{◌≡◌, ◌-◌, ◌==◌, ◌&&◌}
-use Rattle.counting.proofs.Common.{count, mem}
+use Rattle.counting.proofs.Common.{◌≡◌, ◌-◌, ◌==◌, ◌&&◌, count, mem}
 use Rattle.match_search.specs.Common.{numbers}
 use Rattle.match_search.proofs.missable.exposed_count.Given as goal
 

@@ -1,5 +1,4 @@
-use Rattle.std.proofs.Common.{List, ℕ, sym, subst, ap, ◌∙◌, length}
-use Rattle.counting.proofs.Common.{singleton, union}
+use Rattle.counting.proofs.Common.{List, ℕ, sym, subst, ap, ◌∙◌, length, singleton, union}
 use Rattle.match_search.specs.Common.{HoldsMatching, MayBeExposed}
 use Rattle.match_search.proofs.Instances.{left_parts}
 use Rattle.match_search.proofs.MissableRows.{exposed_without, held_without, serves_again, written_long}

@@ -1,5 +1,4 @@
-use Rattle.std.proofs.Common.{length}
-use Rattle.counting.proofs.Common.{count, mem}
+use Rattle.counting.proofs.Common.{length, count, mem}
 use Rattle.match_search.proofs.outer.+outer_on.Given as goal
 
 abbrev pub decreases-outer_on : goal.decreases-outer_on

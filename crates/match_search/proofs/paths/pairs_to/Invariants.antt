@@ -1,5 +1,4 @@
-use Rattle.std.proofs.Common.{◌≡◌, ◌+◌, true}
-use Rattle.counting.proofs.Common.{mem}
+use Rattle.counting.proofs.Common.{◌≡◌, ◌+◌, true, mem}
 use Rattle.match_search.specs.Common.{HoldsForest, numbers}
 use Rattle.match_search.proofs.ForestWalks.{steps}
 use Rattle.match_search.proofs.paths.pairs_to.Given as goal

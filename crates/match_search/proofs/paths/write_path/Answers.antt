@@ -1,5 +1,4 @@
-use Rattle.std.proofs.Common.{◌≡◌, ◌≢◌, ℕ, ◌+◌, ◌-◌, ◌<◌, sym, ap, ◌∙◌, arith, inl, inr, length, List, slice_set, get_or-set_same, get_or-set_other}
-use Rattle.counting.proofs.Common.{cases_eq}
+use Rattle.counting.proofs.Common.{◌≡◌, ◌≢◌, ℕ, ◌+◌, ◌-◌, ◌<◌, sym, ap, ◌∙◌, arith, inl, inr, length, List, slice_set, get_or-set_same, get_or-set_other, cases_eq}
 use Rattle.match_search.specs.Common.{numbers}
 use Rattle.match_search.proofs.ForestWalks.{climbs, goes_on, has_mate, has_pairs}
 use Rattle.match_search.proofs.PathsUp.{unwritten, up_parts, path_written}

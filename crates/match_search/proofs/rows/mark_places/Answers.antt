@@ -1,5 +1,4 @@
-use Rattle.std.proofs.Common.{arith}
-use Rattle.counting.proofs.Common.{or_assoc}
+use Rattle.counting.proofs.Common.{arith, or_assoc}
 use Rattle.match_search.specs.Common.{marks}
 use Rattle.match_search.proofs.GrownRows.{with_put}
 use Rattle.match_search.proofs.Gluing.{mem-more}

@@ -1,6 +1,4 @@
-use Rattle.std.proofs.Common.{◌==◌, ◌&&◌, ◌||◌, take, sym, ap, ◌∙◌, arith}
-use Rattle.std.proofs.lemmas.List.Folds.{list_any_more}
-use Rattle.counting.proofs.Common.{get_or_from_slice_get, list_any, item, mem}
+use Rattle.counting.proofs.Common.{◌==◌, ◌&&◌, ◌||◌, take, sym, ap, ◌∙◌, arith, list_any_more, get_or_from_slice_get, list_any, item, mem}
 use Rattle.match_core.specs.declared.matching.MatchRow.{MatchRow}
 use Rattle.matching_digraph.specs.MatchedPairs.{row_joins}
 use Rattle.matching_digraph.proofs.arcs.add_mates.Goals as goal

@@ -1,5 +1,4 @@
-use Rattle.std.proofs.Common.{◌≡◌, ◌||◌, ℕ, length, take}
-use Rattle.counting.proofs.Common.{list_any, Within, item, mem}
+use Rattle.counting.proofs.Common.{◌≡◌, ◌||◌, ℕ, length, take, list_any, Within, item, mem}
 use Rattle.matching_digraph.specs.MatchedPairs.{row_joins}
 use Rattle.matching_digraph.proofs.arcs.add_mates.Given as goal
 

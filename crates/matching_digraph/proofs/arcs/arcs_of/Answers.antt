@@ -1,6 +1,4 @@
-use Rattle.std.proofs.Common.{◌≡◌, ℕ, ◌∙◌, ◌++◌, List, length, take, drop, sym, ap, arith}
-use Rattle.std.proofs.Math.Seq.{take-append_seam}
-use Rattle.counting.proofs.Common.{mem}
+use Rattle.counting.proofs.Common.{◌≡◌, ℕ, ◌∙◌, ◌++◌, List, length, take, drop, sym, ap, arith, take-append_seam, mem}
 use Rattle.match_core.specs.Common.{edges_of}
 use Rattle.matching_digraph.proofs.MatchedArcs.{arcs_from, list_any-mates}
 use Rattle.matching_digraph.proofs.arcs.arcs_of.Goals as goal

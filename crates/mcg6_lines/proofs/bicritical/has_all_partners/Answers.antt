@@ -1,5 +1,4 @@
-use Rattle.std.proofs.Common.{◌≡◌, ◌≢◌, ◌∙◌, [], ℕ, List, ap₂, arith, subst, sym}
-use Rattle.counting.proofs.Common.{Within, mem, pair_set}
+use Rattle.counting.proofs.Common.{◌≡◌, ◌≢◌, ◌∙◌, [], ℕ, List, ap₂, arith, subst, sym, Within, mem, pair_set}
 use Rattle.graph_core.proofs.Common.{Graph, has_perfect, has_perfect_found, has_perfect_says}
 use Rattle.match_core.specs.Common.{are_partners}
 use Rattle.mcg6_lines.proofs.bicritical.has_all_partners.Goals as goal

@@ -1,5 +1,4 @@
-use Rattle.std.proofs.Common.{◌≤◌, Bool, true, false, arith, refl, sym, ◌↔◌, IsTrue}
-use Rattle.counting.proofs.Common.{true≢false, IfOk-weaker, Within, none}
+use Rattle.counting.proofs.Common.{◌≤◌, Bool, true, false, arith, refl, sym, ◌↔◌, IsTrue, true≢false, IfOk-weaker, Within, none}
 use Rattle.graph_core.proofs.Common.{Graph, HasPerfect, IsBicritical, IsMultigraph, size}
 use Rattle.mcg6_lines.specs.Selecting.{Decides}
 use Rattle.mcg6_lines.specs.declared.query.Property.TheVariants.{Bicritical}

@@ -1,5 +1,4 @@
-use Rattle.std.proofs.Common.{◌+◌, ◌∙◌, ap, arith, inl, inr, subst, sym, IsTrue}
-use Rattle.counting.proofs.Common.{cases_eq}
+use Rattle.counting.proofs.Common.{◌+◌, ◌∙◌, ap, arith, inl, inr, subst, sym, IsTrue, cases_eq}
 use Rattle.mcg6_lines.specs.Selecting.{HasAllPartners}
 use Rattle.mcg6_lines.proofs.bicritical.is_critical.Goals as goal
 

@@ -1,5 +1,4 @@
-use Rattle.std.proofs.Common.{◌≡◌, ℕ, []}
-use Rattle.counting.proofs.Common.{Within}
+use Rattle.counting.proofs.Common.{◌≡◌, ℕ, [], Within}
 use Rattle.mcg6_lines.specs.Selecting.{HasAllPartners}
 use Rattle.mcg6_lines.proofs.bicritical.is_critical.Given as goal
 

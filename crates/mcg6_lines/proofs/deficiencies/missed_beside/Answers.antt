@@ -1,5 +1,4 @@
-use Rattle.std.proofs.Common.{◌≤◌, ◌-◌, ℕ, List, length, count_by, ap, sym, ◌∙◌, arith}
-use Rattle.counting.proofs.Common.{count_mem_length, is_odd, mem, none}
+use Rattle.counting.proofs.Common.{◌≤◌, ◌-◌, ℕ, List, length, count_by, ap, sym, ◌∙◌, arith, count_mem_length, is_odd, mem, none}
 use Rattle.graph_core.proofs.Common.{berge_bound}
 use Rattle.barrier_kit.proofs.CutLists.{odd_parts-counted}
 use Rattle.mcg6_lines.proofs.MissedVertices.{excess, odd_parts}

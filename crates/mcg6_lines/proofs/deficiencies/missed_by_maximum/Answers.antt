@@ -1,5 +1,4 @@
-use Rattle.std.proofs.Common.{◌≤◌, ◌-◌, ◌*◌, List, length, map, arith}
-use Rattle.counting.proofs.Common.{length-map, mem, none, IsRisingIn}
+use Rattle.counting.proofs.Common.{◌≤◌, ◌-◌, ◌*◌, List, length, map, arith, length-map, mem, none, IsRisingIn}
 use Rattle.graph_core.proofs.Common.{Graph, IsGraph, IsMaximum, size}
 use Rattle.match_core.proofs.MatchingEdges.{edge_of, rows-rise}
 use Rattle.match_core.specs.declared.matching.MatchRow.{MatchRow}

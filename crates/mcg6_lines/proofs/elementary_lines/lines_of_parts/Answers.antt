@@ -1,6 +1,4 @@
-use Rattle.std.proofs.Common.{append_assoc, arith}
-use Rattle.std.proofs.lemmas.List.{drop_all}
-use Rattle.counting.proofs.Common.{append-nil, get_or_from_slice_get}
+use Rattle.counting.proofs.Common.{append_assoc, arith, drop_all, append-nil, get_or_from_slice_get}
 use Rattle.mcg6_lines.proofs.Components.{components_next, part_rises}
 use Rattle.mcg6_lines.proofs.elementary_lines.lines_of_parts.Goals as goal
 

@@ -1,5 +1,4 @@
-use Rattle.std.proofs.Common.{◌≡◌, ℕ, All, List, arith}
-use Rattle.counting.proofs.Common.{IfOk-weaker, IsRisingIn, mem}
+use Rattle.counting.proofs.Common.{◌≡◌, ℕ, All, List, arith, IfOk-weaker, IsRisingIn, mem}
 use Rattle.graph_core.proofs.Common.{components}
 use Rattle.mcg6_lines.specs.Elementary.{elementary_parts}
 use Rattle.mcg6_lines.proofs.Components.{parts_rise}

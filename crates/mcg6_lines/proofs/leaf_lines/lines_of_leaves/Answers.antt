@@ -1,6 +1,4 @@
-use Rattle.std.proofs.Common.{◌<◌, length, arith}
-use Rattle.std.proofs.lemmas.List.{drop_all}
-use Rattle.counting.proofs.Common.{append-nil, get_or_read, length-map}
+use Rattle.counting.proofs.Common.{◌<◌, length, arith, drop_all, append-nil, get_or_read, length-map}
 use Rattle.tree_core.proofs.Common.{place_of}
 use Rattle.tree_core.specs.declared.tallies.LeafKind.TheVariants.{Brick}
 use Rattle.mcg6_lines.proofs.LeafTexts.{lines_further}

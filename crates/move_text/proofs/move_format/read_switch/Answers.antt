@@ -1,5 +1,4 @@
-use Rattle.std.proofs.Common.{◌≡◌, ◌++◌, ◌∷◌, [], ◌∙◌, List, ap, arith}
-use Rattle.counting.proofs.Common.{map-append}
+use Rattle.counting.proofs.Common.{◌≡◌, ◌++◌, ◌∷◌, [], ◌∙◌, List, ap, arith, map-append}
 use Rattle.tree_core.proofs.Common.{move_of, moves_of}
 use Rattle.tree_core.specs.declared.moves.Move.{Move}
 use Rattle.move_text.proofs.move_format.read_switch.Goals as goal

@@ -1,5 +1,4 @@
-use Rattle.std.proofs.Common.{◌≡◌, ◌∷◌, map, take, string_bytes}
-use Rattle.counting.proofs.Common.{AllByRecursion}
+use Rattle.counting.proofs.Common.{◌≡◌, ◌∷◌, map, take, string_bytes, AllByRecursion}
 use Rattle.line_text.specs.Common.{written}
 use Rattle.tree_core.proofs.Common.{move_of, moves_of}
 use Rattle.move_text.specs.Common.{header_words, move_words, SetsRise}

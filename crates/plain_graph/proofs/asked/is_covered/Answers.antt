@@ -1,5 +1,4 @@
-use Rattle.std.proofs.Common.{arith}
-use Rattle.counting.proofs.Common.{both_ways}
+use Rattle.counting.proofs.Common.{arith, both_ways}
 use Rattle.graph_core.proofs.Common.{reason-uncovered}
 use Rattle.plain_graph.proofs.asked.is_covered.Goals as goal
 

@@ -1,5 +1,4 @@
-use Rattle.std.proofs.Common.{◌≡◌, ◌≤◌, ◌&&◌}
-use Rattle.counting.proofs.Common.{count, mem}
+use Rattle.counting.proofs.Common.{◌≡◌, ◌≤◌, ◌&&◌, count, mem}
 use Rattle.graph_core.proofs.Common.{in_cut}
 use Rattle.plain_graph.proofs.cuts.edges_in_cut.Given as goal
 

@@ -1,5 +1,4 @@
-use Rattle.std.proofs.Common.{◌≡◌, ◌≤◌}
-use Rattle.counting.proofs.Common.{count, mem}
+use Rattle.counting.proofs.Common.{◌≡◌, ◌≤◌, count, mem}
 use Rattle.plain_graph.proofs.cuts.vertices_in.Given as goal
 
 abbrev pub invariant-loop-i : goal.invariant-loop-i

@@ -1,5 +1,4 @@
-use Rattle.std.proofs.Common.{◌≡◌, ◌≤◌, ◌+◌, ◌*◌, ◌==◌, ◌&&◌}
-use Rattle.counting.proofs.Common.{count, mem}
+use Rattle.counting.proofs.Common.{◌≡◌, ◌≤◌, ◌+◌, ◌*◌, ◌==◌, ◌&&◌, count, mem}
 use Rattle.graph_core.proofs.Common.{first_end, second_end}
 use Rattle.plain_graph.proofs.degrees.degree.Given as goal
 

@@ -1,5 +1,4 @@
-use Rattle.std.proofs.Common.{arith}
-use Rattle.counting.proofs.Common.{lt-leb, mem}
+use Rattle.counting.proofs.Common.{arith, lt-leb, mem}
 use Rattle.graph_core.proofs.Common.{fits_at}
 use Rattle.plain_graph.proofs.Tries.{every_not}
 use Rattle.plain_graph.proofs.degrees.is_matching.Goals as goal

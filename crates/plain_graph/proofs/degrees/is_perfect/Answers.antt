@@ -1,5 +1,4 @@
-use Rattle.std.proofs.Common.{arith, ne_eqb}
-use Rattle.counting.proofs.Common.{mem}
+use Rattle.counting.proofs.Common.{arith, ne_eqb, mem}
 use Rattle.graph_core.proofs.Common.{right_degree}
 use Rattle.plain_graph.proofs.Tries.{every_not}
 use Rattle.plain_graph.proofs.degrees.is_perfect.Goals as goal

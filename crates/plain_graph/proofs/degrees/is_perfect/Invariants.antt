@@ -1,5 +1,4 @@
-use Rattle.std.proofs.Common.{◌≡◌, true}
-use Rattle.counting.proofs.Common.{mem, every}
+use Rattle.counting.proofs.Common.{◌≡◌, true, mem, every}
 use Rattle.graph_core.proofs.Common.{right_degree}
 use Rattle.plain_graph.proofs.degrees.is_perfect.Given as goal
 

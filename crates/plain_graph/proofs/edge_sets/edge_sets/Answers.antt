@@ -1,5 +1,4 @@
-use Rattle.std.proofs.Common.{sym, subst, All}
-use Rattle.counting.proofs.Common.{IsRisingIn}
+use Rattle.counting.proofs.Common.{sym, subst, All, IsRisingIn}
 use Rattle.plain_graph.proofs.Subsets.{subsets-rising}
 use Rattle.plain_graph.proofs.edge_sets.edge_sets.Goals as goal
 

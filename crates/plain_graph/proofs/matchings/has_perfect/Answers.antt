@@ -1,5 +1,4 @@
-use Rattle.std.proofs.Common.{arith}
-use Rattle.counting.proofs.Common.{mem}
+use Rattle.counting.proofs.Common.{arith, mem}
 use Rattle.plain_graph.proofs.Tries.{has_perfect-list}
 use Rattle.plain_graph.proofs.matchings.has_perfect.Goals as goal
 

@@ -1,5 +1,4 @@
-use Rattle.std.proofs.Common.{◌≡◌, filter, take, List, ℕ}
-use Rattle.counting.proofs.Common.{mem}
+use Rattle.counting.proofs.Common.{◌≡◌, filter, take, List, ℕ, mem}
 use Rattle.graph_core.proofs.Common.{is_perfect}
 use Rattle.plain_graph.proofs.matchings.perfect_among.Given as goal
 

@@ -1,5 +1,4 @@
-use Rattle.std.proofs.Common.{sym, ap, ◌∙◌}
-use Rattle.counting.proofs.Common.{is_odd, mem, is_odd_remainder}
+use Rattle.counting.proofs.Common.{sym, ap, ◌∙◌, is_odd, mem, is_odd_remainder}
 use Rattle.graph_core.proofs.Common.{joined}
 use Rattle.plain_graph.proofs.Reaching.{length-part}
 use Rattle.plain_graph.proofs.parts.is_in_odd_part.Goals as goal

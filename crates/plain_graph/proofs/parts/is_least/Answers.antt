@@ -1,5 +1,4 @@
-use Rattle.std.proofs.Common.{◌==◌, sym, ap, ◌∙◌}
-use Rattle.counting.proofs.Common.{mem}
+use Rattle.counting.proofs.Common.{◌==◌, sym, ap, ◌∙◌, mem}
 use Rattle.plain_graph.proofs.Reaching.{least-first}
 use Rattle.plain_graph.proofs.parts.is_least.Goals as goal
 

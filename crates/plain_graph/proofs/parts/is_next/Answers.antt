@@ -1,5 +1,4 @@
-use Rattle.std.proofs.Common.{◌+◌, ◌&&◌, sym, arith}
-use Rattle.counting.proofs.Common.{and_from, true_some, mem}
+use Rattle.counting.proofs.Common.{◌+◌, ◌&&◌, sym, arith, and_from, true_some, mem}
 use Rattle.graph_core.proofs.Common.{adjacent}
 use Rattle.plain_graph.proofs.parts.is_next.Goals as goal
 

@@ -1,5 +1,4 @@
-use Rattle.std.proofs.Common.{◌≡◌, ◌&&◌, false}
-use Rattle.counting.proofs.Common.{mem, some}
+use Rattle.counting.proofs.Common.{◌≡◌, ◌&&◌, false, mem, some}
 use Rattle.graph_core.proofs.Common.{adjacent}
 use Rattle.plain_graph.proofs.parts.is_next.Given as goal
 

@@ -1,5 +1,4 @@
-use Rattle.std.proofs.Common.{arith}
-use Rattle.counting.proofs.Common.{mem}
+use Rattle.counting.proofs.Common.{arith, mem}
 use Rattle.plain_graph.proofs.Reaching.{reaches-all, reaches-step}
 use Rattle.plain_graph.proofs.parts.joined_to.Goals as goal
 

@@ -1,5 +1,4 @@
-use Rattle.std.proofs.Common.{◌≡◌, ℕ, true}
-use Rattle.counting.proofs.Common.{Within, mem}
+use Rattle.counting.proofs.Common.{◌≡◌, ℕ, true, Within, mem}
 use Rattle.graph_core.proofs.Common.{adjacent, reaches}
 use Rattle.plain_graph.proofs.parts.joined_to.Given as goal
 

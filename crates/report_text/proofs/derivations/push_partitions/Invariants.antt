@@ -1,5 +1,4 @@
-use Rattle.std.proofs.Common.{◌≡◌, ◌++◌, ℕ, length, map, string_bytes}
-use Rattle.counting.proofs.Common.{Within}
+use Rattle.counting.proofs.Common.{◌≡◌, ◌++◌, ℕ, length, map, string_bytes, Within}
 use Rattle.tree_core.proofs.Common.{leaf_at, IsLeafKind, kind_at}
 use Rattle.report_text.specs.Common.{numbered_leaf_lines}
 use Rattle.report_text.proofs.derivations.push_partitions.Given as goal

@@ -1,5 +1,4 @@
-use Rattle.std.proofs.Common.{◌≡◌, flat_map, map, nat_lt}
-use Rattle.counting.proofs.Common.{pair_with, rising_list, everything}
+use Rattle.counting.proofs.Common.{◌≡◌, flat_map, map, nat_lt, pair_with, rising_list, everything}
 use Rattle.separation_kit.specs.Common.{pair_value}
 use Rattle.separation_kit.proofs.pair.all_pairs.Given as goal
 

@@ -1,5 +1,4 @@
-use Rattle.std.proofs.Common.{◌≡◌, ◌++◌, ◌≤◌, map, nat_lt}
-use Rattle.counting.proofs.Common.{pair_with, rising_list}
+use Rattle.counting.proofs.Common.{◌≡◌, ◌++◌, ◌≤◌, map, nat_lt, pair_with, rising_list}
 use Rattle.separation_kit.specs.Common.{pair_value}
 use Rattle.separation_kit.proofs.pair.push_pairs.Given as goal
 

@@ -1,5 +1,4 @@
-use Rattle.std.proofs.Common.{sym, subst, All, arith}
-use Rattle.counting.proofs.Common.{Within, IsRisingIn, pair_set}
+use Rattle.counting.proofs.Common.{sym, subst, All, arith, Within, IsRisingIn, pair_set}
 use Rattle.separation_kit.proofs.PairShores.{components-rise}
 use Rattle.separation_kit.proofs.shores.add_pair_cuts.Goals as goal
 

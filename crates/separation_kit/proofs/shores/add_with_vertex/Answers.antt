@@ -1,5 +1,4 @@
-use Rattle.std.proofs.Common.{sym, subst, All, arith}
-use Rattle.counting.proofs.Common.{IsRisingIn}
+use Rattle.counting.proofs.Common.{sym, subst, All, arith, IsRisingIn}
 use Rattle.separation_kit.proofs.PairShores.{fold-map_more}
 use Rattle.separation_kit.proofs.shores.add_with_vertex.Goals as goal
 

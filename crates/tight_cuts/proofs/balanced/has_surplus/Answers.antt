@@ -1,5 +1,4 @@
-use Rattle.std.proofs.Common.{◌∙◌, not, sym, arith}
-use Rattle.counting.proofs.Common.{and_parts, mem, set-part}
+use Rattle.counting.proofs.Common.{◌∙◌, not, sym, arith, and_parts, mem, set-part}
 use Rattle.tight_cuts.proofs.SurplusShores.{lists_tight}
 use Rattle.tight_cuts.proofs.balanced.has_surplus.Goals as goal
 

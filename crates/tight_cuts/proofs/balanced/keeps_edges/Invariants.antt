@@ -1,5 +1,4 @@
-use Rattle.std.proofs.Common.{◌≡◌, ℕ, false}
-use Rattle.counting.proofs.Common.{Within, complement, mem}
+use Rattle.counting.proofs.Common.{◌≡◌, ℕ, false, Within, complement, mem}
 use Rattle.graph_core.proofs.Common.{connects}
 use Rattle.tight_cuts.proofs.balanced.keeps_edges.Given as goal
 

@@ -1,6 +1,4 @@
-use Rattle.std.proofs.Common.{sym, subst, All}
-use Rattle.std.proofs.lemmas.List.Elements.{All-get_or}
-use Rattle.counting.proofs.Common.{IsRisingIn}
+use Rattle.counting.proofs.Common.{sym, subst, All, All-get_or, IsRisingIn}
 use Rattle.tight_cuts.proofs.candidate.candidates_of.Goals as goal
 
 pub new-requires-clause-shore : goal.new-requires-clause-shore

@@ -1,5 +1,4 @@
-use Rattle.std.proofs.Common.{◌≡◌, ℕ, ◌<◌, cond, length}
-use Rattle.counting.proofs.Common.{Within, item, mem}
+use Rattle.counting.proofs.Common.{◌≡◌, ℕ, ◌<◌, cond, length, Within, item, mem}
 use Rattle.tight_cuts.proofs.clusters.put_at_members.Given as goal
 
 abbrev pub invariant-loop-i : goal.invariant-loop-i

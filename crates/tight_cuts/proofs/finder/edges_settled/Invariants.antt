@@ -1,5 +1,4 @@
-use Rattle.std.proofs.Common.{◌≡◌, ℕ}
-use Rattle.counting.proofs.Common.{Within}
+use Rattle.counting.proofs.Common.{◌≡◌, ℕ, Within}
 use Rattle.tight_cuts.specs.Common.{with_edge_cut}
 use Rattle.tight_cuts.proofs.finder.edges_settled.Given as goal
 

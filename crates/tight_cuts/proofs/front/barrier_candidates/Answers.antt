@@ -1,7 +1,6 @@
-use Rattle.std.proofs.Common.{sym, subst, All}
+use Rattle.counting.proofs.Common.{sym, subst, All, IsRisingIn}
 use Rattle.barrier_kit.proofs.Common.{barrier_cuts-canonical}
 use Rattle.graph_core.proofs.Common.{IsCanonicalCut}
-use Rattle.counting.proofs.Common.{IsRisingIn}
 use Rattle.tight_cuts.proofs.FrontCandidates.{canonical-rising}
 use Rattle.tight_cuts.proofs.front.barrier_candidates.Goals as goal
 

@@ -1,5 +1,4 @@
-use Rattle.std.proofs.Common.{◌≡◌, List, sym, subst, ap, ◌∙◌, arith, map, option_map}
-use Rattle.counting.proofs.Common.{IfOk-weaker}
+use Rattle.counting.proofs.Common.{◌≡◌, List, sym, subst, ap, ◌∙◌, arith, map, option_map, IfOk-weaker}
 use Rattle.barrier_kit.proofs.Common.{bicritical_no_cuts}
 use Rattle.graph_core.proofs.Common.{Graph, IsBicritical}
 use Rattle.separation_kit.proofs.SeparationFacts.{equivalent-none}

@@ -1,5 +1,4 @@
-use Rattle.std.proofs.Common.{◌∙◌, ap, sym, subst, All, arith}
-use Rattle.counting.proofs.Common.{IsRisingIn}
+use Rattle.counting.proofs.Common.{◌∙◌, ap, sym, subst, All, arith, IsRisingIn}
 use Rattle.separation_kit.proofs.SeparationFacts.{separation_cuts-canonical}
 use Rattle.graph_core.proofs.Common.{IsCanonicalCut, Graph, IsBicritical}
 use Rattle.separation_kit.specs.Common.{separation_cuts}

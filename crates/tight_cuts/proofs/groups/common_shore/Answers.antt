@@ -1,5 +1,4 @@
-use Rattle.std.proofs.Common.{arith}
-use Rattle.counting.proofs.Common.{mem}
+use Rattle.counting.proofs.Common.{arith, mem}
 use Rattle.allowed_edges.specs.PairTables.{edge_lists}
 use Rattle.tight_cuts.proofs.CrossingMatchings.{crosses_new, later_tight}
 use Rattle.tight_cuts.proofs.EdgeShores.{cut-shore, group_facts, none-common, tight-common}

@@ -1,5 +1,4 @@
-use Rattle.std.proofs.Common.{ap, sym, subst, arith}
-use Rattle.counting.proofs.Common.{Within}
+use Rattle.counting.proofs.Common.{ap, sym, subst, arith, Within}
 use Rattle.tight_cuts.proofs.groups.cut_of_groups.Goals as goal
 
 pub min_cut-requires-clause-source : goal.min_cut-requires-clause-source

@@ -1,5 +1,4 @@
-use Rattle.std.proofs.Common.{◌≡◌, ◌≤◌}
-use Rattle.counting.proofs.Common.{total}
+use Rattle.counting.proofs.Common.{◌≡◌, ◌≤◌, total}
 use Rattle.flow_core.specs.Common.{total_capacity}
 use Rattle.tight_cuts.specs.Common.{arcs_by, at_place, row_group}
 use Rattle.tight_cuts.proofs.groups.network.Given as goal

@@ -1,5 +1,4 @@
-use Rattle.std.proofs.Common.{◌≡◌, ◌<◌, ℕ, false}
-use Rattle.counting.proofs.Common.{Within, mem}
+use Rattle.counting.proofs.Common.{◌≡◌, ◌<◌, ℕ, false, Within, mem}
 use Rattle.tight_cuts.specs.Common.{row_group}
 use Rattle.tight_cuts.proofs.groups.vertices_of.Given as goal
 

@@ -1,5 +1,4 @@
-use Rattle.std.proofs.Common.{◌∙◌, ap, subst, sym}
-use Rattle.counting.proofs.Common.{same_Some, Within, mem}
+use Rattle.counting.proofs.Common.{◌∙◌, ap, subst, sym, same_Some, Within, mem}
 use Rattle.tight_cuts.specs.Common.{IsCommonShore}
 use Rattle.tight_cuts.proofs.EdgePieces.{whole_shore}
 use Rattle.tight_cuts.proofs.EdgeShores.{ends_within}

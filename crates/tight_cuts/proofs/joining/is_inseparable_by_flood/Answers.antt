@@ -1,5 +1,4 @@
-use Rattle.std.proofs.Common.{◌≡◌, ◌∙◌, None, subst, sym}
-use Rattle.counting.proofs.Common.{all_in_true, mem, Within}
+use Rattle.counting.proofs.Common.{◌≡◌, ◌∙◌, None, subst, sym, all_in_true, mem, Within}
 use Rattle.graph_core.proofs.Common.{Graph, size}
 use Rattle.tight_cuts.proofs.OneSided.{none_parted}
 use Rattle.tight_cuts.specs.Common.{first_separated}

@@ -1,5 +1,4 @@
-use Rattle.std.proofs.Common.{◌≡◌, true, IfSome}
-use Rattle.counting.proofs.Common.{mem, Within}
+use Rattle.counting.proofs.Common.{◌≡◌, true, IfSome, mem, Within}
 use Rattle.tight_cuts.proofs.joining.next_vertex.Given as goal
 
 abbrev pub invariant-loop-k : goal.invariant-loop-k

@@ -1,5 +1,4 @@
-use Rattle.std.proofs.Common.{◌<◌}
-use Rattle.counting.proofs.Common.{mem}
+use Rattle.counting.proofs.Common.{◌<◌, mem}
 use Rattle.tight_cuts.specs.Common.{AreRowsWithout, IsOneSided}
 use Rattle.tight_cuts.proofs.joining.reach_of.Given as goal
 

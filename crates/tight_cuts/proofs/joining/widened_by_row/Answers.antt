@@ -1,6 +1,4 @@
-use Rattle.std.proofs.Common.{◌≡◌, ℕ, ◌∙◌, ◌||◌, ap, subst, arith}
-use Rattle.std.proofs.lemmas.Grind.{common_steps}
-use Rattle.counting.proofs.Common.{item, mem, Within}
+use Rattle.counting.proofs.Common.{◌≡◌, ℕ, ◌∙◌, ◌||◌, ap, subst, arith, common_steps, item, mem, Within}
 use Rattle.graph_core.proofs.Common.{Graph}
 use Rattle.match_core.specs.Common.{are_partners}
 use Rattle.tight_cuts.proofs.OneSided.{widened_by_row}

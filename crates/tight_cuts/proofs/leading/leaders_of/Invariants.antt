@@ -1,5 +1,4 @@
-use Rattle.std.proofs.Common.{◌≡◌, ℕ, ◌+◌, length}
-use Rattle.counting.proofs.Common.{Within}
+use Rattle.counting.proofs.Common.{◌≡◌, ℕ, ◌+◌, length, Within}
 use Rattle.tight_cuts.specs.Common.{at_place, leader}
 use Rattle.tight_cuts.proofs.leading.leaders_of.Given as goal
 

@@ -1,5 +1,4 @@
-use Rattle.std.proofs.Common.{◌≡◌, ℕ, ◌+◌, length, take, map}
-use Rattle.counting.proofs.Common.{bit, mem}
+use Rattle.counting.proofs.Common.{◌≡◌, ℕ, ◌+◌, length, take, map, bit, mem}
 use Rattle.match_core.proofs.MatchingEdges.{edge_of}
 use Rattle.tight_cuts.specs.Common.{at_place}
 use Rattle.tight_cuts.proofs.pieces.count_edges.Given as goal

@@ -1,5 +1,4 @@
-use Rattle.std.proofs.Common.{◌+◌, ◌∙◌, sym, subst, arith}
-use Rattle.counting.proofs.Common.{both_ways}
+use Rattle.counting.proofs.Common.{◌+◌, ◌∙◌, sym, subst, arith, both_ways}
 use Rattle.allowed_edges.proofs.PairSteps.{held_together}
 use Rattle.allowed_edges.specs.PairTables.{edge_lists}
 use Rattle.tight_cuts.proofs.BesideGraphs.{BesideSoFar, beside-more, beside-skip, beside-whole}

@@ -1,5 +1,4 @@
-use Rattle.std.proofs.Common.{arith}
-use Rattle.counting.proofs.Common.{mem}
+use Rattle.counting.proofs.Common.{arith, mem}
 use Rattle.tight_cuts.proofs.ThirdEdges.{one_member, vertex_of}
 use Rattle.tight_cuts.proofs.quick_tightness.has_few_later.Goals as goal
 

@@ -1,5 +1,4 @@
-use Rattle.std.proofs.Common.{◌≡◌, ◌∙◌, ◌&&◌, ℕ, true, length, ap, arith}
-use Rattle.counting.proofs.Common.{Within, is_subset, mem, none}
+use Rattle.counting.proofs.Common.{◌≡◌, ◌∙◌, ◌&&◌, ℕ, true, length, ap, arith, Within, is_subset, mem, none}
 use Rattle.graph_core.proofs.Common.{row-adjacent}
 use Rattle.match_core.specs.Common.{are_partners}
 use Rattle.tight_cuts.proofs.TurnedEdges.{none_joined}

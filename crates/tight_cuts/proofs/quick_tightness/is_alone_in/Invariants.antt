@@ -1,5 +1,4 @@
-use Rattle.std.proofs.Common.{◌≡◌, ℕ, ◌<◌, ◌≤◌, []}
-use Rattle.counting.proofs.Common.{Within, mem, none}
+use Rattle.counting.proofs.Common.{◌≡◌, ℕ, ◌<◌, ◌≤◌, [], Within, mem, none}
 use Rattle.graph_core.proofs.Common.{size}
 use Rattle.tight_cuts.specs.Common.{AreEndsPartners, Leaves}
 use Rattle.tight_cuts.proofs.quick_tightness.is_alone_in.Given as goal

@@ -1,5 +1,4 @@
-use Rattle.std.proofs.Common.{◌≡◌, ◌⊎◌, ℕ, true}
-use Rattle.counting.proofs.Common.{Within, mem}
+use Rattle.counting.proofs.Common.{◌≡◌, ◌⊎◌, ℕ, true, Within, mem}
 use Rattle.tight_cuts.specs.Common.{HasFewLater, LeavesAlone}
 use Rattle.tight_cuts.proofs.quick_tightness.is_uncrossed.Given as goal
 

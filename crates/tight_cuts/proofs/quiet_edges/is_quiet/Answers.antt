@@ -1,5 +1,4 @@
-use Rattle.std.proofs.Common.{◌∙◌, sym}
-use Rattle.counting.proofs.Common.{all_in_true, mem}
+use Rattle.counting.proofs.Common.{◌∙◌, sym, all_in_true, mem}
 use Rattle.tight_cuts.proofs.OneSided.{alone, none_parted}
 use Rattle.tight_cuts.proofs.quiet_edges.is_quiet.Goals as goal
 

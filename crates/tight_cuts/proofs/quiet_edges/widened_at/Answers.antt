@@ -1,6 +1,4 @@
-use Rattle.std.proofs.Common.{◌∙◌, ◌||◌, ◌==◌, refl, sym, ap, subst}
-use Rattle.std.proofs.lemmas.Option.{get_or_from_slice_get}
-use Rattle.counting.proofs.Common.{mem}
+use Rattle.counting.proofs.Common.{◌∙◌, ◌||◌, ◌==◌, refl, sym, ap, subst, get_or_from_slice_get, mem}
 use Rattle.graph_core.proofs.Common.{first_end}
 use Rattle.match_core.specs.Common.{IsRowOf, edges_of}
 use Rattle.allowed_edges.proofs.ListedBases.{edge_held}

@@ -1,5 +1,4 @@
-use Rattle.std.proofs.Common.{◌∙◌, ◌||◌, ◌==◌, sym, ap}
-use Rattle.counting.proofs.Common.{mem}
+use Rattle.counting.proofs.Common.{◌∙◌, ◌||◌, ◌==◌, sym, ap, mem}
 use Rattle.graph_core.proofs.Common.{first_end}
 use Rattle.allowed_edges.proofs.PairSteps.{held_together}
 use Rattle.tight_cuts.proofs.OneSided.{both_ends}

@@ -1,5 +1,4 @@
-use Rattle.std.proofs.Common.{◌≡◌, false, arith}
-use Rattle.counting.proofs.Common.{mem}
+use Rattle.counting.proofs.Common.{◌≡◌, false, arith, mem}
 use Rattle.tight_cuts.proofs.CrossingMatchings.{crosses_by_two}
 use Rattle.tight_cuts.proofs.tightness.crossing_by.Goals as goal
 

@@ -1,5 +1,4 @@
-use Rattle.std.proofs.Common.{ℕ, List, subst, sym, arith}
-use Rattle.counting.proofs.Common.{mem}
+use Rattle.counting.proofs.Common.{ℕ, List, subst, sym, arith, mem}
 use Rattle.graph_core.proofs.Common.{covered_perfect, HasPerfect, IsPerfect}
 use Rattle.match_core.specs.Common.{edges_of}
 use Rattle.tight_cuts.proofs.CrossingMatchings.{crossed_not_tight, uncrossed_tight}

@@ -1,5 +1,4 @@
-use Rattle.std.proofs.Common.{◌∙◌, sym, arith}
-use Rattle.counting.proofs.Common.{not-false}
+use Rattle.counting.proofs.Common.{◌∙◌, sym, arith, not-false}
 use Rattle.allowed_edges.proofs.PairSteps.{apart_shared, share_some}
 use Rattle.tight_cuts.proofs.tightness.is_to_ask.Goals as goal
 

@@ -1,5 +1,4 @@
-use Rattle.std.proofs.Common.{arith}
-use Rattle.counting.proofs.Common.{mem}
+use Rattle.counting.proofs.Common.{arith, mem}
 use Rattle.tight_cuts.proofs.PartnersOfEnds.{together_partners}
 use Rattle.tight_cuts.proofs.tightness.may_hold_both.Goals as goal
 

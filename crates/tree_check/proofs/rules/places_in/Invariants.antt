@@ -1,6 +1,5 @@
 -- So far the set has the places of the blocks before this one that are in the shore.
-use Rattle.std.proofs.Common.{◌≡◌, ℕ, true}
-use Rattle.counting.proofs.Common.{Within, mem}
+use Rattle.counting.proofs.Common.{◌≡◌, ℕ, true, Within, mem}
 use Rattle.graph_core.proofs.Common.{blocks_in}
 use Rattle.tree_check.proofs.rules.places_in.Given as goal
 

@@ -1,5 +1,4 @@
-use Rattle.std.proofs.Common.{IsTrue, ap, arith}
-use Rattle.counting.proofs.Common.{IfOk-weaker}
+use Rattle.counting.proofs.Common.{IsTrue, ap, arith, IfOk-weaker}
 use Rattle.tree_core.proofs.Common.{IsCutAt, IsDerivationAt, shape_of}
 use Rattle.tree_check.proofs.SoundMoves.{switched-here, switched-kept, switched-merged}
 use Rattle.tree_check.specs.Common.{IsBlock}

@@ -1,5 +1,4 @@
-use Rattle.std.proofs.Common.{eqb-true, arith}
-use Rattle.counting.proofs.Common.{mem}
+use Rattle.counting.proofs.Common.{eqb-true, arith, mem}
 use Rattle.tree_check.proofs.SoundMoves.{block-of_one}
 use Rattle.tree_check.proofs.sound_moves.is_block.Goals as goal
 

@@ -1,5 +1,4 @@
-use Rattle.std.proofs.Common.{◌≡◌, ℕ, length, map}
-use Rattle.counting.proofs.Common.{Within}
+use Rattle.counting.proofs.Common.{◌≡◌, ℕ, length, map, Within}
 use Rattle.tree_core.specs.Common.{leaf_at, IsLeafKind, kind_at}
 use Rattle.tree_core.proofs.tallies.leaf_kinds.Given as goal
 

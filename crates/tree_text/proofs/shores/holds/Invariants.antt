@@ -1,5 +1,4 @@
-use Rattle.std.proofs.Common.{◌≡◌, length}
-use Rattle.counting.proofs.Common.{mem}
+use Rattle.counting.proofs.Common.{◌≡◌, length, mem}
 use Rattle.tree_text.proofs.shores.holds.Given as goal
 
 -- n is among those left if and only if it is among all

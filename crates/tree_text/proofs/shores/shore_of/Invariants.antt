@@ -1,5 +1,4 @@
-use Rattle.std.proofs.Common.{◌≡◌, ◌||◌, ℕ, length, All}
-use Rattle.counting.proofs.Common.{Within, mem}
+use Rattle.counting.proofs.Common.{◌≡◌, ◌||◌, ℕ, length, All, Within, mem}
 use Rattle.tree_text.proofs.shores.shore_of.Given as goal
 
 -- the numbers are those in the set and those left

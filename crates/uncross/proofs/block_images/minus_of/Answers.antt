@@ -1,5 +1,4 @@
-use Rattle.counting.proofs.Common.{fun_ext, rising_list}
-use Rattle.std.proofs.Common.{ap, ◌∙◌}
+use Rattle.counting.proofs.Common.{ap, ◌∙◌, fun_ext, rising_list}
 use Rattle.uncross.proofs.block_images.minus_of.Goals as goal
 
 pub returns : goal.returns

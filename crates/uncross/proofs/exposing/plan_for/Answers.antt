@@ -1,5 +1,4 @@
-use Rattle.std.proofs.Common.{List, ℕ, subst, subst₂, sym}
-use Rattle.counting.proofs.Common.{IsRisingIn}
+use Rattle.counting.proofs.Common.{List, ℕ, subst, subst₂, sym, IsRisingIn}
 use Rattle.uncross.specs.Common.{plan_of, IsPlan}
 use Rattle.uncross.proofs.exposing.plan_for.Goals as goal
 

@@ -1,5 +1,4 @@
-use Rattle.std.proofs.Common.{refl, subst, sym}
-use Rattle.counting.proofs.Common.{IsRisingIn}
+use Rattle.counting.proofs.Common.{refl, subst, sym, IsRisingIn}
 use Rattle.graph_core.proofs.Common.{complement_of-rises}
 use Rattle.tree_core.proofs.Common.{is-complement}
 use Rattle.uncross.proofs.plans.complement.Goals as goal

@@ -1,5 +1,4 @@
-use Rattle.counting.proofs.Common.{fun_ext, odd_remainder, is_odd}
-use Rattle.std.proofs.Common.{ap, ◌∙◌}
+use Rattle.counting.proofs.Common.{ap, ◌∙◌, fun_ext, odd_remainder, is_odd}
 use Rattle.graph_core.proofs.Common.{block_count}
 use Rattle.uncross.proofs.plans.share_odd.Goals as goal
 

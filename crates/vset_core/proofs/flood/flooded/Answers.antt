@@ -1,5 +1,4 @@
-use Rattle.std.proofs.Common.{◌≡◌, ◌-◌, ◌||◌, ◌&&◌, ◌==◌, ℕ, [], ap, ◌∙◌, arith, length, not}
-use Rattle.counting.proofs.Common.{get_or_read, mem, Within}
+use Rattle.counting.proofs.Common.{◌≡◌, ◌-◌, ◌||◌, ◌&&◌, ◌==◌, ℕ, [], ap, ◌∙◌, arith, length, not, get_or_read, mem, Within}
 use Rattle.vset_core.specs.Floods.{leads}
 use Rattle.vset_core.proofs.Floods.{flooding_step, flooding_less, flooding_end}
 use Rattle.vset_core.proofs.flood.flooded.Goals.{After-union-open}

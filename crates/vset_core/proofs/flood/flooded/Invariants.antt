@@ -1,5 +1,4 @@
-use Rattle.std.proofs.Common.{length, ◌||◌}
-use Rattle.counting.proofs.Common.{count, mem}
+use Rattle.counting.proofs.Common.{length, ◌||◌, count, mem}
 use Rattle.vset_core.proofs.Floods.{IsFlooding}
 use Rattle.vset_core.proofs.flood.flooded.Given as goal
 

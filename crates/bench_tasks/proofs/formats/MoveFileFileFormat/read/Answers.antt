@@ -1,5 +1,4 @@
-use Rattle.std.proofs.Common.{ℕ, subst, arith}
-use Rattle.counting.proofs.Common.{length-map}
+use Rattle.counting.proofs.Common.{ℕ, subst, arith, length-map}
 use Rattle.line_text.specs.Common.{ReadsText, reading_of}
 use Rattle.tree_core.proofs.Common.{moves_of}
 use Rattle.move_text.specs.Common.{move_format}

@@ -1,5 +1,4 @@
-use Rattle.std.proofs.Common.{ℕ, ◌<◌, List, length, subst, sym, slice_index}
-use Rattle.counting.proofs.Common.{Within}
+use Rattle.counting.proofs.Common.{ℕ, ◌<◌, List, length, subst, sym, slice_index, Within}
 use Rattle.contraction.proofs.LeastEdges.{least-within, some-least}
 use Rattle.contraction.proofs.contracted.Contracted.least.Goals as goal
 

@@ -1,6 +1,4 @@
-use Rattle.std.proofs.Common.{◌≡◌, ◌<◌, ◌^◌, ap, sym, ◌∙◌, arith, ℕ, List, count_by}
-use Rattle.std.proofs.lemmas.List.Sums.{count_by-le-length}
-use Rattle.counting.proofs.Common.{is_subset, mem}
+use Rattle.counting.proofs.Common.{◌≡◌, ◌<◌, ◌^◌, ap, sym, ◌∙◌, arith, ℕ, List, count_by, count_by-le-length, is_subset, mem}
 use Rattle.graph_core.proofs.Common.{block_count}
 use Rattle.contraction.specs.Partition.{PartitionValue, KeepsPartition}
 use Rattle.contraction.proofs.BlockLists.{count-along, length-partition}

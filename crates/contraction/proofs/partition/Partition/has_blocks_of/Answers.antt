@@ -1,6 +1,4 @@
-use Rattle.std.proofs.Common.{arith}
-use Rattle.std.proofs.lemmas.Slice.Eq.{slice_eq-Decides}
-use Rattle.counting.proofs.Common.{bytes_eq-Decides}
+use Rattle.counting.proofs.Common.{arith, slice_eq-Decides, bytes_eq-Decides}
 use Rattle.contraction.proofs.partition.Partition.has_blocks_of.Goals as goal
 
 pub returns : goal.returns

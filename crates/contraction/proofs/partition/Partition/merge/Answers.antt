@@ -1,5 +1,4 @@
-use Rattle.std.proofs.Common.{◌≡◌, ap, sym, ◌∙◌, subst, ℕ, List, filter, not}
-use Rattle.counting.proofs.Common.{is_subset}
+use Rattle.counting.proofs.Common.{◌≡◌, ap, sym, ◌∙◌, subst, ℕ, List, filter, not, is_subset}
 use Rattle.graph_core.proofs.Common.{insert_block, merged}
 use Rattle.contraction.specs.Partition.{IsUnionAt, KeepsPartition, PartitionValue}
 use Rattle.contraction.proofs.BlockUnions.{keeps-merged, merged-outside}

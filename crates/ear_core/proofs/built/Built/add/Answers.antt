@@ -1,5 +1,4 @@
-use Rattle.std.proofs.Common.{◌∙◌, ap, map}
-use Rattle.counting.proofs.Common.{map-append}
+use Rattle.counting.proofs.Common.{◌∙◌, ap, map, map-append}
 use Rattle.ear_core.specs.Common.{step_of}
 use Rattle.ear_core.proofs.GoingOn.{built-on, on-ok}
 use Rattle.ear_core.proofs.built.Built.add.Goals as goal

@@ -1,5 +1,4 @@
-use Rattle.std.proofs.Common.{◌≡◌, ◌+◌, ◌≤◌, ℕ}
-use Rattle.counting.proofs.Common.{Set, complement, count}
+use Rattle.counting.proofs.Common.{◌≡◌, ◌+◌, ◌≤◌, ℕ, Set, complement, count}
 use Rattle.graph_core.proofs.Common.{size}
 use Rattle.match_search.specs.Common.{marks}
 use Rattle.ear_core.specs.Common.{IsBuilt, IsFilled, IsMarked}

@@ -1,5 +1,4 @@
-use Rattle.std.proofs.Common.{◌||◌, ◌==◌, ◌∙◌, ap, sym, List, ℕ}
-use Rattle.counting.proofs.Common.{or_assoc, mem, Within}
+use Rattle.counting.proofs.Common.{◌||◌, ◌==◌, ◌∙◌, ap, sym, List, ℕ, or_assoc, mem, Within}
 use Rattle.graph_core.proofs.Common.{size}
 use Rattle.match_search.specs.Common.{marks}
 use Rattle.ear_core.proofs.FirstFaults.{items-behind}

@@ -1,5 +1,4 @@
-use Rattle.std.proofs.Common.{◌≡◌, ◌||◌, ℕ, All, length}
-use Rattle.counting.proofs.Common.{mem, Within}
+use Rattle.counting.proofs.Common.{◌≡◌, ◌||◌, ℕ, All, length, mem, Within}
 use Rattle.graph_core.proofs.Common.{size}
 use Rattle.match_search.specs.Common.{marks}
 use Rattle.ear_core.specs.Common.{IsMarked}

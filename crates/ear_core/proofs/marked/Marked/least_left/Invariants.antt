@@ -1,5 +1,4 @@
-use Rattle.std.proofs.Common.{◌≡◌, ℕ, true}
-use Rattle.counting.proofs.Common.{Within}
+use Rattle.counting.proofs.Common.{◌≡◌, ℕ, true, Within}
 use Rattle.match_search.specs.Common.{marks}
 use Rattle.ear_core.proofs.marked.Marked.least_left.Given as goal
 

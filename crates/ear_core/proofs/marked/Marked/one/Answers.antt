@@ -1,7 +1,6 @@
-use Rattle.std.proofs.Common.{rules, ap, ◌∙◌, Bool, List, sym}
+use Rattle.counting.proofs.Common.{rules, ap, ◌∙◌, Bool, List, sym, mem}
 use Rattle.match_search.proofs.Marks.{no-marks}
 use Rattle.match_search.specs.Common.{marks}
-use Rattle.counting.proofs.Common.{mem}
 use Rattle.ear_core.proofs.MarkedStages.{nothing-met}
 use Rattle.ear_core.proofs.marked.Marked.one.Goals as goal
 

@@ -1,5 +1,4 @@
-use Rattle.std.proofs.Common.{◌≡◌, ◌↔◌, List, ℕ, false, subst, sym, true}
-use Rattle.counting.proofs.Common.{mem, Within}
+use Rattle.counting.proofs.Common.{◌≡◌, ◌↔◌, List, ℕ, false, subst, sym, true, mem, Within}
 use Rattle.ear_core.proofs.StageClasses.{class-has, one-has}
 use Rattle.ear_core.specs.Common.{HasClasses, HaveRow}
 use Rattle.ear_core.specs.declared.asking.Asked.{Asked}

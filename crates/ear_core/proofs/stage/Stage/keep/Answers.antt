@@ -1,5 +1,4 @@
-use Rattle.std.proofs.Common.{◌≡◌, ℕ, subst, sym, true}
-use Rattle.counting.proofs.Common.{mem, Within}
+use Rattle.counting.proofs.Common.{◌≡◌, ℕ, subst, sym, true, mem, Within}
 use Rattle.ear_core.proofs.StageClasses.{rows-kept}
 use Rattle.ear_core.specs.Common.{HaveRow}
 use Rattle.ear_core.specs.declared.asking.Asked.{Asked}

@@ -1,5 +1,4 @@
-use Rattle.std.proofs.Common.{◌≡◌, ◌↔◌, ◌∙◌, List, ℕ, ap, not, subst, sym, true}
-use Rattle.counting.proofs.Common.{both_ways, item, mem, true≢false, Within}
+use Rattle.counting.proofs.Common.{◌≡◌, ◌↔◌, ◌∙◌, List, ℕ, ap, not, subst, sym, true, both_ways, item, mem, true≢false, Within}
 use Rattle.ear_core.proofs.StagePartners.{partners-on}
 use Rattle.ear_core.specs.Common.{ArePartnersOn, IsAsked, is_met}
 use Rattle.ear_core.specs.declared.asking.Asked.{Asked}

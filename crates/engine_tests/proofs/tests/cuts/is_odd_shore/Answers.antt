@@ -1,5 +1,4 @@
-use Rattle.std.proofs.Common.{◌≡◌, ℕ, ◌∙◌, ◌↔◌, ap, subst, sym, true}
-use Rattle.counting.proofs.Common.{Within, is_odd, mem}
+use Rattle.counting.proofs.Common.{◌≡◌, ℕ, ◌∙◌, ◌↔◌, ap, subst, sym, true, Within, is_odd, mem}
 use Rattle.engine_tests.proofs.OddShores.{remainder-odd, subset-rises}
 use Rattle.engine_tests.proofs.tests.cuts.is_odd_shore.Goals as goal
 

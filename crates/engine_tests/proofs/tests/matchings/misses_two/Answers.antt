@@ -1,5 +1,4 @@
-use Rattle.std.proofs.Common.{◌+◌, ◌*◌, [], arith, eqb-true}
-use Rattle.counting.proofs.Common.{set-none}
+use Rattle.counting.proofs.Common.{◌+◌, ◌*◌, [], arith, eqb-true, set-none}
 use Rattle.match_core.proofs.ClearedMatchings.{left_size}
 use Rattle.match_core.proofs.MatchingEdges.{rows-matching}
 use Rattle.engine_tests.proofs.tests.matchings.misses_two.Goals as goal

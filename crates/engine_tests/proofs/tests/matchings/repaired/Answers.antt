@@ -1,5 +1,4 @@
-use Rattle.std.proofs.Common.{sym, subst}
-use Rattle.counting.proofs.Common.{mem}
+use Rattle.counting.proofs.Common.{sym, subst, mem}
 use Rattle.graph_core.proofs.Common.{IsMatching}
 use Rattle.match_core.specs.Common.{edges_of}
 use Rattle.match_core.proofs.MatchingEdges.{rows-matching}

@@ -1,5 +1,4 @@
-use Rattle.std.proofs.Common.{◌==◌, ◌||◌, ap, ◌∙◌}
-use Rattle.counting.proofs.Common.{mem}
+use Rattle.counting.proofs.Common.{◌==◌, ◌||◌, ap, ◌∙◌, mem}
 use Rattle.flow_core.proofs.SearchTrees.{IsSetOfVisited-root}
 use Rattle.flow_core.proofs.search.Reached.from_source.Goals as goal
 

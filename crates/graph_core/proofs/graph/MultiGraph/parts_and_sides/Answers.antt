@@ -1,5 +1,4 @@
-use Rattle.std.proofs.Common.{◌≡◌, ◌∙◌, ℕ, List, [], length, ap, subst, sym}
-use Rattle.counting.proofs.Common.{mem, none}
+use Rattle.counting.proofs.Common.{◌≡◌, ◌∙◌, ℕ, List, [], length, ap, subst, sym, mem, none}
 use Rattle.graph_core.specs.Common.{AreTrees, AreRows, graph_of}
 use Rattle.graph_core.specs.declared.ends.Ends.{Ends}
 use Rattle.graph_core.specs.declared.tree.TreeNode.{TreeNode}

@@ -1,5 +1,4 @@
-use Rattle.std.proofs.Common.{◌-◌, arith, sym}
-use Rattle.counting.proofs.Common.{true_some}
+use Rattle.counting.proofs.Common.{◌-◌, arith, sym, true_some}
 use Rattle.graph_core.proofs.Simplicity.{repeats}
 use Rattle.graph_core.proofs.graph.MultiGraph.repeats.Goals as goal
 

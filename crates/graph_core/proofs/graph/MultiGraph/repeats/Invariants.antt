@@ -1,5 +1,4 @@
-use Rattle.std.proofs.Common.{◌≡◌, ◌-◌, false}
-use Rattle.counting.proofs.Common.{some}
+use Rattle.counting.proofs.Common.{◌≡◌, ◌-◌, false, some}
 use Rattle.graph_core.proofs.Simplicity.{repeats}
 use Rattle.graph_core.proofs.graph.MultiGraph.repeats.Given as goal
 

@@ -1,6 +1,4 @@
-use Rattle.std.proofs.Common.{arith, sym}
-use Rattle.std.proofs.lemmas.Bool.{false≢true}
-use Rattle.counting.proofs.Common.{cases_eq}
+use Rattle.counting.proofs.Common.{arith, sym, false≢true, cases_eq}
 use Rattle.graph_core.proofs.Simplicity.{simple_from_no_repeat, no_repeat_from_simple}
 use Rattle.graph_core.proofs.graph.MultiGraph.simple.Goals as goal
 

@@ -1,5 +1,4 @@
-use Rattle.std.proofs.Common.{◌≡◌, ◌-◌, ◌<◌, false, ℕ}
-use Rattle.counting.proofs.Common.{Within, some}
+use Rattle.counting.proofs.Common.{◌≡◌, ◌-◌, ◌<◌, false, ℕ, Within, some}
 use Rattle.graph_core.specs.Common.{size}
 use Rattle.graph_core.proofs.Simplicity.{repeats}
 use Rattle.graph_core.proofs.graph.MultiGraph.simple.Given as goal

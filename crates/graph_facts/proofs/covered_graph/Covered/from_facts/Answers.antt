@@ -1,5 +1,4 @@
-use Rattle.std.proofs.Common.{subst, sym, arith}
-use Rattle.counting.proofs.Common.{mem}
+use Rattle.counting.proofs.Common.{subst, sym, arith, mem}
 use Rattle.graph_core.proofs.Common.{Graph, IsCovered, IsGraph, covered_perfect}
 use Rattle.match_core.specs.Common.{edges_of}
 use Rattle.graph_facts.proofs.CoveredFacts.{maximum_is_perfect}

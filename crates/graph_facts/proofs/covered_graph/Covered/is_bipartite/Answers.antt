@@ -1,5 +1,4 @@
-use Rattle.std.proofs.Common.{refl}
-use Rattle.counting.proofs.Common.{mem}
+use Rattle.counting.proofs.Common.{refl, mem}
 use Rattle.graph_facts.proofs.covered_graph.Covered.is_bipartite.Goals as goal
 
 pub returns-in-Some : goal.returns-in-Some

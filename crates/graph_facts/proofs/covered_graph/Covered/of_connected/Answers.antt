@@ -1,5 +1,4 @@
-use Rattle.std.proofs.Common.{Option, List, ℕ, subst, IfSome, arith}
-use Rattle.counting.proofs.Common.{mem, none}
+use Rattle.counting.proofs.Common.{Option, List, ℕ, subst, IfSome, arith, mem, none}
 use Rattle.graph_core.proofs.Common.{HasPerfect, covered_perfect}
 use Rattle.match_core.specs.Common.{edges_of, ArePartners}
 use Rattle.allowed_edges.proofs.AllowedPartners.{perfect_unless_none}

@@ -1,5 +1,4 @@
-use Rattle.std.proofs.Common.{◌≡◌, ◌&&◌, true, Bool, ap, ◌∙◌, ℕ, List, arith}
-use Rattle.counting.proofs.Common.{mem}
+use Rattle.counting.proofs.Common.{◌≡◌, ◌&&◌, true, Bool, ap, ◌∙◌, ℕ, List, arith, mem}
 use Rattle.graph_core.proofs.Common.{degree_congr}
 use Rattle.match_core.specs.Common.{edges_of, left_over}
 use Rattle.graph_facts.proofs.covered_graph.Covered.own_matching.Goals as goal

@@ -1,5 +1,4 @@
-use Rattle.std.proofs.Common.{ap, ◌∙◌, length, arith}
-use Rattle.counting.proofs.Common.{none}
+use Rattle.counting.proofs.Common.{ap, ◌∙◌, length, arith, none}
 use Rattle.graph_core.proofs.Common.{component_count, Graph, component_count_le, length-components}
 use Rattle.graph_facts.proofs.facts.Facts.components.Goals as goal
 

@@ -1,5 +1,4 @@
-use Rattle.std.proofs.Common.{refl, subst}
-use Rattle.counting.proofs.Common.{mem}
+use Rattle.counting.proofs.Common.{refl, subst, mem}
 use Rattle.graph_core.proofs.Common.{Graph, IsBipartite}
 use Rattle.graph_facts.proofs.facts.Facts.is_bipartite.Goals as goal
 

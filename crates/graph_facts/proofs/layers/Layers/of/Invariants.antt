@@ -1,5 +1,4 @@
-use Rattle.std.proofs.Common.{◌&&◌, ◌||◌, not}
-use Rattle.counting.proofs.Common.{count, mem}
+use Rattle.counting.proofs.Common.{◌&&◌, ◌||◌, not, count, mem}
 use Rattle.graph_facts.specs.Layers.{AreOpenLayers}
 use Rattle.graph_facts.proofs.layers.Layers.of.Given as goal
 

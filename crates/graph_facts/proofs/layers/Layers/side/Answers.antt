@@ -1,5 +1,4 @@
-use Rattle.std.proofs.Common.{◌≡◌, ◌∙◌, ap, sym, subst, List, ℕ, arith}
-use Rattle.counting.proofs.Common.{mem, and_parts}
+use Rattle.counting.proofs.Common.{◌≡◌, ◌∙◌, ap, sym, subst, List, ℕ, arith, mem, and_parts}
 use Rattle.graph_core.proofs.Common.{IsSide}
 use Rattle.graph_facts.proofs.Parities.{even_side, no_side}
 use Rattle.graph_facts.proofs.layers.Layers.side.Goals.{In-None}

@@ -1,6 +1,4 @@
-use Rattle.std.proofs.Common.{◌≡◌, ◌%◌, length, ap, ap₂, sym, ◌∙◌, subst, slice_index}
-use Rattle.std.proofs.lemmas.Nat.{mod_below}
-use Rattle.counting.proofs.Common.{Within}
+use Rattle.counting.proofs.Common.{◌≡◌, ◌%◌, length, ap, ap₂, sym, ◌∙◌, subst, slice_index, mod_below, Within}
 use Rattle.grow_gen.specs.Common.{eligible, growth_of}
 use Rattle.grow_gen.proofs.Skeleton.{eligible-within}
 use Rattle.grow_gen.proofs.growing.Growing.pick.Goals as goal

@@ -1,6 +1,4 @@
-use Rattle.std.proofs.Common.{◌≡◌, ℕ, ◌++◌, List, ap, sym, ◌∙◌, subst, length, take, drop, rules}
-use Rattle.std.proofs.Math.Seq.{take-append_seam}
-use Rattle.counting.proofs.Common.{Set, mem}
+use Rattle.counting.proofs.Common.{◌≡◌, ℕ, ◌++◌, List, ap, sym, ◌∙◌, subst, length, take, drop, rules, take-append_seam, Set, mem}
 use Rattle.match_search.specs.Common.{IsGathered, IsUnionOf}
 use Rattle.match_search.proofs.instance.Instance.shrink.Goals as goal
 

@@ -1,5 +1,4 @@
-use Rattle.std.proofs.Common.{◌∙◌, ap, refl, subst, sym, option_map}
-use Rattle.counting.proofs.Common.{both_ways}
+use Rattle.counting.proofs.Common.{◌∙◌, ap, refl, subst, sym, option_map, both_ways}
 use Rattle.graph_core.proofs.Common.{Graph, IsBicritical}
 use Rattle.separation_kit.specs.Common.{pair_value}
 use Rattle.separation_kit.proofs.SeparationFacts.{equivalent-none}

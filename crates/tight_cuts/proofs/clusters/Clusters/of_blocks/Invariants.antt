@@ -1,6 +1,5 @@
 -- So far there is a set for each block, by the names in the set of the block's own name.
-use Rattle.std.proofs.Common.{◌≡◌, ℕ, true, length}
-use Rattle.counting.proofs.Common.{item, last_of, mem, Within}
+use Rattle.counting.proofs.Common.{◌≡◌, ℕ, true, length, item, last_of, mem, Within}
 use Rattle.graph_core.proofs.Common.{block}
 use Rattle.tight_cuts.proofs.clusters.Clusters.of_blocks.Given as goal
 

@@ -1,6 +1,4 @@
-use Rattle.std.proofs.Common.{◌≡◌, ◌∙◌, ℕ, List, ap, arith}
-use Rattle.std.proofs.lemmas.Grind.{common_steps}
-use Rattle.counting.proofs.Common.{item, mem}
+use Rattle.counting.proofs.Common.{◌≡◌, ◌∙◌, ℕ, List, ap, arith, common_steps, item, mem}
 use Rattle.graph_core.proofs.Common.{place_in, union_of_blocks}
 use Rattle.tight_cuts.proofs.clusters.Clusters.of_vertex.Goals as goal
 

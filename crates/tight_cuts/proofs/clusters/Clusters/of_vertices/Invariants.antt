@@ -1,6 +1,5 @@
 -- So far there is a set for each vertex: the blocks of the cluster of its own.
-use Rattle.std.proofs.Common.{◌≡◌, ℕ, length}
-use Rattle.counting.proofs.Common.{item, mem, Within}
+use Rattle.counting.proofs.Common.{◌≡◌, ℕ, length, item, mem, Within}
 use Rattle.graph_core.proofs.Common.{place, union_of_blocks}
 use Rattle.tight_cuts.proofs.clusters.Clusters.of_vertices.Given as goal
 

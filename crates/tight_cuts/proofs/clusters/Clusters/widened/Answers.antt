@@ -1,6 +1,4 @@
-use Rattle.std.proofs.Common.{◌≡◌, ◌+◌, true, arith}
-use Rattle.std.proofs.lemmas.Grind.{common_steps}
-use Rattle.counting.proofs.Common.{item, mem}
+use Rattle.counting.proofs.Common.{◌≡◌, ◌+◌, true, arith, common_steps, item, mem}
 use Rattle.tight_cuts.proofs.OneSided.{with_cluster}
 use Rattle.tight_cuts.proofs.clusters.Clusters.widened.Goals.{then-contains, else-contains}
 use Rattle.tight_cuts.proofs.clusters.Clusters.widened.Goals as goal

@@ -1,5 +1,4 @@
-use Rattle.std.proofs.Common.{◌≡◌, ℕ, true}
-use Rattle.counting.proofs.Common.{mem}
+use Rattle.counting.proofs.Common.{◌≡◌, ℕ, true, mem}
 use Rattle.tight_cuts.specs.Common.{IsOneSided}
 use Rattle.tight_cuts.proofs.clusters.Clusters.widened.Given as goal
 

@@ -1,5 +1,4 @@
-use Rattle.std.proofs.Common.{subst}
-use Rattle.counting.proofs.Common.{IsRisingIn}
+use Rattle.counting.proofs.Common.{subst, IsRisingIn}
 use Rattle.vset_core.specs.WordLaws.{members-rise}
 use Rattle.vset_core.proofs.vertex_set.VSet.rises.Goals as goal
 
