@@ -16,8 +16,7 @@ trace_true g v (e ∷ es) h =
 
 true_trace : (g : Graph) (v : ℕ) (es : List ℕ) → Follow g v es → follows g v es ≡ true
 true_trace g v [] t = refl
-true_trace g v (e ∷ es) t = and_from ((nat_le 1 e && nat_le e (size g)) && (first_end g e == v || second_end g e == v)) (follows g (other_end g e v) es)
-    (and_from (nat_le 1 e && nat_le e (size g)) (first_end g e == v || second_end g e == v) (and_from (nat_le 1 e) (nat_le e (size g)) (le-leb 1 e t.0.0.0) (le-leb e (size g) t.0.0.1)) t.0.1) (true_trace g (other_end g e v) es t.1)
+true_trace g v (e ∷ es) t = grind (arith, and_from, nat_le, size, first_end, second_end, le-leb, true_trace g (other_end g e v) es t.1)
 
 times_front : (g : Graph) (v : ℕ) (es : List ℕ) (w : ℕ) → times (trail g v es) w ≡ times (front (trail g v es)) w + bit (last_vertex g v es == w)
 times_front g v [] w = omega arith

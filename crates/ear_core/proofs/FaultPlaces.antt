@@ -1,6 +1,6 @@
 -- Where the fault of a step shows, as the code finds it.
 -- Idea: the code goes on item by item, and of two ears the first that fails gives the place.
-use Rattle.counting.proofs.Common.{◌≡◌, ℕ, ◌-◌, Bool, true, false, ◌==◌, ◌||◌, sym, ap, ◌∙◌, arith, [], ◌∷◌, List, length, Option, Some, None, refl, eqb-true, ◌⊎◌, inl, inr, find, option_and_then, is_some, is_none, fun_ext, Set, mem}
+use Rattle.counting.proofs.Common.{◌≡◌, ℕ, ◌-◌, Bool, true, false, ◌==◌, ◌||◌, sym, ap, ◌∙◌, arith, [], ◌∷◌, List, length, Option, Some, None, refl, eqb-true, ◌⊎◌, find, option_and_then, is_some, is_none, fun_ext, Set, mem}
 use Rattle.graph_core.proofs.Common.{Graph}
 use Rattle.refusals.specs.declared.places.EarOfTwo.{EarOfTwo}
 use Rattle.refusals.specs.declared.places.EarOfTwo.TheVariants.{First, Second}
@@ -20,10 +20,7 @@ found-behind p x rest others begins h = ap (find p) begins ∙ rw h refl
 -- an edge that does not lead to an inner vertex in x
 pub entering-past : (g : Graph) (x : Set) (v e w : ℕ) (rest others : List ℕ) → rest ≡ e ∷ others → w ≡ other_end g e v → (x w ≡ false) ⊎ ((length others == 0) ≡ true) → entering g x v rest ≡ entering g x w others
 entering-past g x v e w rest [] begins is past = grind arith
-entering-past g x v e w rest (d ∷ es) begins is past = elim past [
-  | inl off ↦ ap (entering g x v) begins ∙ rw (sym is) (rw off refl)
-  | inr short ↦ let z = eqb-true (length (d ∷ es)) 0 short in absurd (omega arith)
-]
+entering-past g x v e w rest (d ∷ es) begins is past = grind (arith, eqb-true)
 
 -- the edge depends on the members of a list alone
 module _ (g : Graph) (f : Set) (xs ys ds : List ℕ) (v : ℕ) (es : List ℕ) (same : (w : ℕ) → mem xs w ≡ mem ys w) where

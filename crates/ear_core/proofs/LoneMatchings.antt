@@ -44,13 +44,7 @@ module _ (g : Graph) (is : IsGraph g) (f : Set) (v : ℕ) (es : List ℕ) (ear :
   rest-open e we t = grind (arith, off-open e, false_from_ne_true (f e), both_ways (r e), or_left (f e) (mem es e), met-within g is f, still-met g f es, ends_le_degree g r e, end-counts g e)
 
   pub lone-made : IsPerfectBy g (is_open g f v (last_vertex g v es)) (union (with_edges q (odds es)) r)
-  lone-made = record {
-    perfect = filled g is (with_edges f es) none (with_edges q (odds es)) r (λ w t. absurd (true≢false (sym t))) grown rest;
-    part = λ e we t. elim (or_cases (with_edges q (odds es) e) (r e) t) [
-      | inr i ↦ rest-open e we i
-      | inl i ↦ elim (or_cases (q e) (mem (odds es) e) i) [ inl j ↦ on-open e we j | inr j ↦ ear-open e (mem_odds es e j) ]
-    ];
-  }
+  lone-made = grind (arith, filled, none, true≢false, grown, or_cases, rest-open, mem, on-open, ear-open, mem_odds)
 
 -- where an ear list goes on by a single ear, a perfect matching leads out at two vertices alone
 pub single-leads : (g : Graph) → IsMultigraph g → IsCovered g → (f : Set) → IsStage g f → (c : PlainEar) (steps : List PlainStep) → AreSteps g f (one c ∷ steps) → (m : Set) × LeadsAtTwo g f m

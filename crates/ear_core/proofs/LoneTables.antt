@@ -22,14 +22,10 @@ adjacent-within g is f a w t = let e = joining g f a w t in let b = is e.0 e.1 i
 module _ (g : Graph) (is : IsMultigraph g) (f : Set) (t : Tables) (tables : AreTables g f t) where
   module _ (w x : ℕ) (ww : Within g.order w) (wx : Within g.order x) where
     partners-say : mem (item t.outer w) x ≡ true → (w ≢ x) × (is_met g f w ≡ false) × (is_met g f x ≡ false) × HasPerfect g (union (is_met g f) (pair_set w x))
-    partners-say h =
-        let p = four (not (is_met g f w)) (not (is_met g f x)) (not (w == x)) (has_perfect g (union (is_met g f) (pair_set w x))) (sym (tables.outer.partner_is w x ww wx) ∙ h) in
-        (λ e. both_ways (w == x) (not-true (w == x) p.2) (eq-eqb w x e), not-true (is_met g f w) p.0, not-true (is_met g f x) p.1, has_perfect_says g (union (is_met g f) (pair_set w x)) p.3)
+    partners-say h = grind (arith, four, has_perfect, union, pair_set, both_ways, not-true, eq-eqb, has_perfect_says)
 
     say-partners : w ≢ x → is_met g f w ≡ false → is_met g f x ≡ false → HasPerfect g (union (is_met g f) (pair_set w x)) → mem (item t.outer w) x ≡ true
-    say-partners d ow ox p =
-        tables.outer.partner_is w x ww wx
-        ∙ all-four (not (is_met g f w)) (not (is_met g f x)) (not (w == x)) (has_perfect g (union (is_met g f) (pair_set w x))) (ap not ow) (ap not ox) (ap not (ne_eqb w x d)) (has_perfect_found g (union (is_met g f) (pair_set w x)) p)
+    say-partners d ow ox p = grind (arith, all-four, has_perfect, union, pair_set, ne_eqb, has_perfect_found)
 
   module _ (u v : ℕ) (wu : Within g.order u) where
     abbrev near : ℕ → Set
@@ -39,16 +35,7 @@ module _ (g : Graph) (is : IsMultigraph g) (f : Set) (t : Tables) (tables : AreT
     far = in_rows t.outer g.order (near u)
 
     reached-leads : reached g t u v ≡ true → LeadsOff g f u v
-    reached-leads h = elim (or_cases (in_rows t.near.items g.order far v) (near u v) h) [
-      | inr i ↦ inl (sym (tables.near u v wu) ∙ i, tables.rest)
-      | inl i ↦
-          let x = some_true g.order (λ k. far k && near k v) i in
-          let p = and_parts (far x.0) (near x.0 v) x.2 in
-          let w = some_true g.order (λ k. near u k && mem (item t.outer k) x.0) p.0 in
-          let q = and_parts (near u w.0) (mem (item t.outer w.0) x.0) w.2 in
-          let s = partners-say w.0 x.0 w.1 x.1 q.1 in
-          inr (w.0, x.0, s.0, s.1, s.2, sym (tables.near u w.0 wu) ∙ q.0, adjacent-back g f x.0 v (sym (tables.near x.0 v x.1) ∙ p.1), s.3)
-    ]
+    reached-leads h = grind (arith, or_cases, some_true, and_parts, mem, item, partners-say, adjacent-back)
 
     leads-reached : LeadsOff g f u v → reached g t u v ≡ true
     leads-reached h = elim h [

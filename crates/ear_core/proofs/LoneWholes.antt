@@ -1,6 +1,6 @@
 -- From parts to a perfect matching that leads out of a stage at two of its vertices alone: one of
 -- the stage without the two, one of the rest, and the edges that join them.
-use Rattle.counting.proofs.Common.{◌≡◌, ◌≢◌, ℕ, ◌+◌, ◌*◌, Bool, true, false, ◌==◌, ◌&&◌, ◌||◌, not, refl, sym, ap, ◌∙◌, arith, eq-eqb, eqb-true, ne_eqb, ◌⊎◌, inl, inr, subst, and_parts, both_ways, cases_Bool, cases_eq, false_from_ne_true, not-true, or_cases, or_false, or_false_back, or_from, or_left, or_parts, or_right, some_true, true≢false, bit, Within, Set, complement, none, pair_set, put, union}
+use Rattle.counting.proofs.Common.{◌≡◌, ◌≢◌, ℕ, ◌+◌, ◌*◌, Bool, true, false, ◌==◌, ◌||◌, refl, sym, ap, ◌∙◌, arith, eq-eqb, eqb-true, ne_eqb, ◌⊎◌, inl, inr, subst, and_parts, both_ways, cases_Bool, cases_eq, false_from_ne_true, not-true, or_cases, or_false, or_false_back, or_from, or_left, or_parts, or_right, some_true, true≢false, bit, Within, Set, complement, none, pair_set, put, union}
 use Rattle.barrier_kit.proofs.Common.{perfect_congr}
 use Rattle.graph_core.proofs.Common.{bit_other, bit_same, degree_put, ends_le_degree, ends_of, ends_of_is, has_ends-cases, Graph, IsEnd, IsMultigraph, degree, first_end, has_ends, size, HasEnds, HasPerfect, IsPerfect}
 use Rattle.ear_core.proofs.EngineGraphs.{ends-met}
@@ -12,10 +12,7 @@ use Rattle.ear_core.specs.Common.{IsPerfectBy, IsPerfectOff, LeadsOff, Serves, a
 
 -- the edge that joins two vertices off the stage
 pub joining : (g : Graph) (f : Set) (a b : ℕ) → adjacent_by g (complement f) a b ≡ true → (e : ℕ) × Within (size g) e × (f e ≡ false) × HasEnds g e a b
-joining g f a b t =
-    let e = some_true (size g) (λ i. complement f i && has_ends g a b i) t in
-    let p = and_parts (not (f e.0)) (has_ends g a b e.0) e.2 in
-    (e.0, e.1, not-true (f e.0) p.0, has_ends-cases g a b e.0 p.1)
+joining g f a b t = grind (arith, some_true, size, complement, has_ends, and_parts, not-true, has_ends-cases)
 
 -- with an edge of two vertices that a perfect matching leaves out it is one of these too
 with-pair : (g : Graph) (r p : Set) (e x y : ℕ) → IsPerfect g (union r (pair_set x y)) p → Within (size g) e → Within g.order x → x ≢ y → r x ≡ false → r y ≡ false → HasEnds g e x y → IsPerfect g r (put p e true)

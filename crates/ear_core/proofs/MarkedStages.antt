@@ -1,6 +1,6 @@
 -- The vertices that a stage meets, as its edges are marked one by one.
 -- Idea: an edge is at its two ends alone, so a mark more adds these two vertices and no others.
-use Rattle.counting.proofs.Common.{◌≡◌, ℕ, Bool, true, false, ◌==◌, ◌&&◌, ◌||◌, ◌∙◌, ap, arith, eq-eqb, eqb-true, inl, inr, refl, subst, sym, List, and_from, and_parts, false_from_ne_true, or_assoc, or_cases, or_left, mem, or_right, same_tests, some_true, true_some, true≢false, Within, Set}
+use Rattle.counting.proofs.Common.{◌≡◌, ℕ, Bool, true, false, ◌==◌, ◌&&◌, ◌||◌, ◌∙◌, arith, eq-eqb, eqb-true, inl, inr, refl, subst, List, and_from, and_parts, false_from_ne_true, or_assoc, or_cases, or_left, mem, or_right, same_tests, some_true, true_some, true≢false, Within, Set}
 use Rattle.graph_core.proofs.Common.{Graph, size, first_end, second_end}
 use Rattle.ear_core.specs.Common.{is_met}
 use Rattle.ear_core.proofs.FirstFaults.{met-ends}
@@ -50,5 +50,4 @@ module _ (g : Graph) (f new : Set) (e : ℕ) (within : Within (size g) e) (same 
 
 -- the set with the two ends
 pub ends-added : (g : Graph) (f new : Set) (e : ℕ) → Within (size g) e → ((i : ℕ) → new i ≡ (f i || e == i)) → (met one both : List ℕ) (a b : ℕ) → a ≡ first_end g e → b ≡ second_end g e → ((v : ℕ) → mem met v ≡ is_met g f v) → ((v : ℕ) → mem one v ≡ (mem met v || a == v)) → ((v : ℕ) → mem both v ≡ (mem one v || b == v)) → (v : ℕ) → mem both v ≡ is_met g new v
-ends-added g f new e within same met one both a b at_a at_b are first second v =
-    second v ∙ ap (λ x. x || b == v) (first v ∙ ap (λ x. x || a == v) (are v)) ∙ rw (at_a, at_b) (or_assoc (is_met g f v) (first_end g e == v) (second_end g e == v)) ∙ sym (more-met g f new e within same v)
+ends-added g f new e within same met one both a b at_a at_b are first second v = grind (arith, or_assoc, first_end, second_end, more-met)

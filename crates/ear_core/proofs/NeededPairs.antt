@@ -1,7 +1,7 @@
 -- Two ears are needed where neither of them serves. If a stage with an ear is matching covered,
 -- then a perfect matching of it through the first edge of the ear leaves the ear at its other end
 -- too, by parity; so the stage has a perfect matching without the two ends.
-use Rattle.counting.proofs.Common.{◌≡◌, ◌≢◌, ℕ, ◌+◌, ◌*◌, ◌≤◌, Bool, true, false, ◌==◌, refl, sym, ap, ◌∙◌, arith, ◌&&◌, eq-eqb, ne_eqb, eqb-true, inl, inr, subst, [], ◌∷◌, ◌++◌, List, append_assoc, fun_ext, and_from, and_parts, both_ways, cases_Bool, cases_eq, or_cases, or_left, or_parts, or_right, true≢false, total_add, total_at, total_congr, Within, bit, IsIn, mem, Set, pair_set, put}
+use Rattle.counting.proofs.Common.{◌≡◌, ◌≢◌, ℕ, ◌+◌, ◌*◌, ◌≤◌, Bool, true, false, ◌==◌, refl, sym, ap, arith, ◌&&◌, eq-eqb, ne_eqb, eqb-true, inl, inr, subst, [], ◌∷◌, ◌++◌, List, append_assoc, fun_ext, and_from, and_parts, both_ways, cases_Bool, cases_eq, or_cases, or_left, or_parts, or_right, true≢false, total_add, total_at, total_congr, Within, bit, IsIn, mem, Set, pair_set, put}
 use Rattle.graph_core.proofs.Common.{degree_put, edge_at, ends_le_degree, ends_of, sum_degrees, Graph, IsGraph, degree, size}
 use Rattle.ear_core.proofs.NextStages.{met-within}
 use Rattle.ear_core.proofs.Searching.{before-among}
@@ -62,23 +62,7 @@ module _ (g : Graph) (is : IsGraph g) (f : Set) (stage : IsStage g f) (v : ℕ) 
 
   -- were the other end met, the stage had a perfect matching without one vertex
   with-start : (p : Set) → IsPerfectOf g f p → degree g q v ≡ 0 → degree g q z ≢ 0 → (w : ℕ) → Within g.order w → degree g q w + bit (v == w) ≡ degree g p w
-  with-start p whole start end w ww = elim (cases_Bool (is_met g f w)) [
-    | inr o ↦ grind (arith, unmet g f w o, degree_le g q f w inside, degree_le g p f w whole.part, ne_eqb v w, both_ways (is_met g f w) o)
-    | inl t ↦
-        let a = whole.once w ww t in
-        elim (cases_eq v w) [
-          | inl i ↦ let b = ap (degree g q) (sym i) ∙ start in let c = ap bit (eq-eqb v w i) in omega arith
-          | inr i ↦
-              let c = ap bit (ne_eqb v w i) in
-              elim (cases_eq z w) [
-                | inr j ↦ let b = off-ear w ww t i j in omega arith
-                | inl j ↦
-                    let b = below w in
-                    let d = met-once w ww t in
-                    elim (cases_eq (degree g q w) 0) [ inl e ↦ absurd (end (ap (degree g q) j ∙ e)) | inr e ↦ omega arith ]
-              ]
-        ]
-  ]
+  with-start p whole start end w ww = grind (arith, cases_Bool, unmet, degree_le, inside, ne_eqb, both_ways, cases_eq, degree, bit, eq-eqb, off-ear, below, met-once)
 
   at-end : degree g q v ≡ 0 → degree g q z ≡ 0
   at-end start = elim (cases_eq (degree g q z) 0) [

@@ -27,10 +27,7 @@ module _ (g : Graph) (is : IsGraph g) (f a : Set) (sides : (e : ℕ) → Within 
       (λ h. true_some g.order (λ u. (t u && a u) && (count u t == count v t)) v w (and_from (t v && a v) (count v t == count v t) (and_from (t v) (a v) tv h) (eq-eqb (count v t) (count v t) refl)))
 
   stage_sides : IsSide (stage_graph g f) by_rank
-  stage_sides e we d =
-      let l = size-ranked g is f in
-      let w : Within (size g) e = omega arith in
-      grind (arith, cases_Bool, off-loop, ends-met, first_end-ranked, rank_side, second_end-ranked)
+  stage_sides e we d = grind (arith, size-ranked, size, cases_Bool, off-loop, ends-met, first_end-ranked, rank_side, second_end-ranked)
 
   module _ (s : IsStage g f) where
     -- without two vertices on opposite sides

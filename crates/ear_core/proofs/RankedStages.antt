@@ -117,16 +117,7 @@ module _ (g : Graph) (is : IsGraph g) (f : Set) where
         ]
 
     pub ranked-graph : IsGraph k
-    ranked-graph e we =
-        let l = size-ranked in
-        let w : Within (size g) e = omega arith in
-        elim (cases_Bool (f e)) [
-          | inl h ↦ grind (arith, ends-met, first_end-ranked, rank-within, second_end-ranked)
-          | inr h ↦
-              let u = off-loop e w h in
-              let one : Within k.order 1 = let a = two in omega arith in
-              (subst (Within k.order) (sym u.0) one, subst (Within k.order) (sym u.1) one)
-        ]
+    ranked-graph e we = grind (arith, size-ranked, size, cases_Bool, ends-met, first_end-ranked, rank-within, second_end-ranked, off-loop, two)
 
     walk-ranked : (a b : ℕ) (ws : List ℕ) → Walk (adjacent_by g f) a ws b → Joined k none (count a t) (count b t)
     unfolding Joined

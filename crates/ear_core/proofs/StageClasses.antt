@@ -76,19 +76,12 @@ asked-classes g is f stage asked asks u v w su sv sw left_u left_v never =
 -- a partner of u in a set is one of its vertices that are on the stage and not u
 pub left-other : (g : Graph) → IsGraph g → (f : Set) (asked : Asked) → IsAsked g f asked → (u v : ℕ) (set beside others : List ℕ) → ((w : ℕ) → mem beside w ≡ (mem asked.outside w || u == w)) → ((w : ℕ) → mem others w ≡ (mem set w && not (mem beside w))) →
     ArePartnersOn g f u v → mem set v ≡ true → mem others v ≡ true
-left-other g is f asked asks u v set beside others joined left p on =
-    left v ∙ and_from (mem set v) (not (mem beside v)) on (ap not (joined v ∙ ap₂ ◌||◌ (asks.outside v (met-within g is f v p.2) ∙ ap not p.2) (ne_eqb u v p.0)))
+left-other g is f asked asks u v set beside others joined left p on = grind (arith, and_from, mem, met-within, ne_eqb)
 
 -- at first no row is known
 pub rows-first : (asked : Asked) (mate : List ℕ) (covered : Bool) (known : List ℕ) (rows : List (List ℕ)) → NamesMatching asked.stage (mem asked.outside) mate → (covered ≡ true → HasClasses asked.stage (mem asked.outside)) →
     ((v : ℕ) → mem known v ≡ false) → length rows ≡ asked.stage.order → IsStageOf asked mate covered known rows
-rows-first asked mate covered known rows matched classes empty long = record {
-  matched = matched;
-  classes = classes;
-  one_each = long;
-  within = λ u v su k h. absurd (both_ways (mem known u) (empty u) k);
-  row_is = λ u v su sv k. absurd (both_ways (mem known u) (empty u) k);
-}
+rows-first asked mate covered known rows matched classes empty long = grind (arith, both_ways, mem)
 
 module _ (asked : Asked) (row : List ℕ) (u : ℕ) (su : Within asked.stage.order u) (is_row : (v : ℕ) → Within asked.stage.order v → mem row v ≡ are_partners asked.stage (mem asked.outside) u v) where
   -- a vertex has its own row

@@ -1,7 +1,7 @@
 -- The partners on a stage. Those in its graph tell them; partners stay partners when ears are
 -- added, since the even edges of an ear match its inner vertices; and an edge that joins two
 -- partners is an ear that serves.
-use Rattle.counting.proofs.Common.{◌≡◌, ◌≢◌, ◌↔◌, ℕ, ◌≤◌, ◌+◌, Bool, true, false, cond, ◌==◌, ◌&&◌, ◌||◌, not, refl, sym, ap, ◌∙◌, arith, eq-eqb, eqb-true, ne_eqb, inl, inr, subst, List, [], ◌∷◌, and_from, and_parts, both_ways, not-true, not-false, or_cases, or_left, same_tests, bit, Within, Set, mem, pair_set, union}
+use Rattle.counting.proofs.Common.{◌≡◌, ◌≢◌, ◌↔◌, ℕ, ◌≤◌, ◌+◌, Bool, true, false, cond, ◌==◌, ◌&&◌, ◌||◌, refl, sym, ap, ◌∙◌, arith, eq-eqb, eqb-true, ne_eqb, inl, inr, subst, List, [], ◌∷◌, and_from, and_parts, both_ways, not-true, not-false, or_cases, or_left, same_tests, bit, Within, Set, mem, pair_set, union}
 use Rattle.graph_core.proofs.Common.{has_perfect_found, has_perfect_says, Graph, IsGraph, first_end, has_perfect, second_end, size, HasPerfect}
 use Rattle.match_core.specs.Common.{are_partners}
 use Rattle.ear_core.proofs.AddedEars.{even_on, new-met}
@@ -31,20 +31,11 @@ module _ (g : Graph) (is : IsGraph g) (f : Set) (asked : Asked) (asks : IsAsked 
 
   -- partners in the graph of a stage are partners on the stage
   pub asked-says : Within asked.stage.order v → are_partners asked.stage out u v ≡ true → ArePartnersOn g f u v
-  asked-says sv h =
-      let p = four (not (out u)) (not (out v)) (not (u == v)) (has_perfect asked.stage (union out (pair_set u v))) h in (
-        λ e. both_ways (u == v) (not-true (u == v) p.2) (eq-eqb u v e),
-        not-false (is_met g f u) (sym (asks.outside u wu) ∙ not-true (out u) p.0),
-        not-false (is_met g f v) (sym (asks.outside v (subst (λ n. Within n v) asks.order sv)) ∙ not-true (out v) p.1),
-        pair-serves.0 (has_perfect_says asked.stage (union out (pair_set u v)) p.3),
-      )
+  asked-says sv h = grind (arith, four, has_perfect, union, pair_set, both_ways, not-true, eq-eqb, not-false, wu, pair-serves, has_perfect_says)
 
   -- and the other way
   pub says-asked : ArePartnersOn g f u v → are_partners asked.stage out u v ≡ true
-  says-asked q =
-      let wv = met-within g is f v q.2 in
-      all-four (not (out u)) (not (out v)) (not (u == v)) (has_perfect asked.stage (union out (pair_set u v)))
-      (ap not (asks.outside u wu ∙ ap not q.1)) (ap not (asks.outside v wv ∙ ap not q.2)) (ap not (ne_eqb u v q.0)) (has_perfect_found asked.stage (union out (pair_set u v)) (pair-serves.1 q.3))
+  says-asked q = grind (arith, met-within, all-four, has_perfect, union, pair_set, wu, ne_eqb, has_perfect_found, pair-serves)
 
 -- a row of partners in the graph of a stage has the partners on the stage
 pub partners-on : (g : Graph) → IsGraph g → (f : Set) (asked : Asked) → IsAsked g f asked → (u : ℕ) → Within asked.stage.order u → (row : Set) → ((v : ℕ) → row v ≡ true → Within asked.stage.order v) → ((v : ℕ) → Within asked.stage.order v → row v ≡ are_partners asked.stage (mem asked.outside) u v) → (v : ℕ) →

@@ -9,14 +9,7 @@ use Rattle.front_words.proofs.WritesJoined.{until-more, until-piece, until-then,
 module _ {K F : Type 0} (written : K → Option (List ℕ)) (writes : K → List ℕ → ℕ → K → Type 0) (faults : K → ℕ) where
   -- before anything is said nothing was said
   pub says-none : (before : K) → Says {F = F} written writes faults [] (Ok tt) before before
-  says-none before = record {
-    whole = sym (appended-nil (written before));
-    begun = record { done = []; rest = []; is_text = refl; written = sym (appended-nil (written before)) };
-    writes_whole = whole-none writes before;
-    writes_until = tt;
-    later = omega arith;
-    failed = tt;
-  }
+  says-none before = grind (arith, appended-nil, whole-none)
 
   -- a text that was said, and then a second one
   pub says-then : (first second : List ℕ) (result : Result (Unit {0}) F) (before mid now : K) → Says {F = F} written writes faults first (Ok tt) before mid →
@@ -54,19 +47,7 @@ module _ {K F : Type 0} (written : K → Option (List ℕ)) (writes : K → List
   -- a text that was not said whole, and then a second one
   pub says-stopped : (first second : List ℕ) (e : F) (before now : K) → Says written writes faults first (Err e) before now →
       Says written writes faults (first ++ second) (Err e) before now
-  says-stopped first second e before now said = record {
-    whole = tt;
-    begun = record {
-      done = said.begun.done;
-      rest = said.begun.rest ++ second;
-      is_text = ap (λ (l : List ℕ). l ++ second) said.begun.is_text ∙ append_assoc said.begun.done said.begun.rest second;
-      written = said.begun.written;
-    };
-    writes_whole = tt;
-    writes_until = until-more writes first second before now said.writes_until;
-    later = said.later;
-    failed = said.failed;
-  }
+  says-stopped first second e before now said = grind (arith, append_assoc, until-more)
 
   -- a text of two parts, of which the first was said
   pub says_step : (text first second : List ℕ) (result : Result (Unit {0}) F) (before mid now : K) → text ≡ first ++ second →
@@ -104,14 +85,7 @@ module _ {K F : Type 0} (written : K → Option (List ℕ)) (writes : K → List
       → OnOk result (IsWritten writes bytes before now)
       → faults before ≤ faults now → OnErr result (Rose (faults before) (faults now))
       → Says written writes faults bytes result before now
-  says_piece bytes (Ok u) before now ok err written_whole later failed = record {
-    whole = ok;
-    begun = record { done = bytes; rest = []; is_text = sym (append-nil bytes); written = ok };
-    writes_whole = whole-piece writes bytes before now written_whole;
-    writes_until = tt;
-    later = later;
-    failed = tt;
-  }
+  says_piece bytes (Ok u) before now ok err written_whole later failed = grind (arith, append-nil, whole-piece)
   says_piece bytes (Err e) before now ok err written_whole later failed = record {
     whole = tt;
     begun = record { done = take err.0 bytes; rest = drop err.0 bytes; is_text = sym (take-append-drop err.0 bytes); written = err.2 };

@@ -13,10 +13,7 @@ module _ {K : Type 0} (writes : K → List ℕ → ℕ → K → Type 0) where
   -- writes of a text after writes of another
   taken-then : (n m : ℕ) (first second : List ℕ) (before mid now : K) → WritesTaken writes n first before mid → WritesTaken writes m second mid now →
       WritesWhole writes (first ++ second) before now
-  taken-then n zero first second before mid now one two = record {
-    calls = n;
-    turns = subst₂ (λ (t : List ℕ) (k : K). WritesTaken writes n t before k) (sym (ap (λ (l : List ℕ). first ++ l) two.0 ∙ append-nil first)) (sym two.1) one;
-  }
+  taken-then n zero first second before mid now one two = grind (arith, append-nil)
   taken-then n (suc m) first second before mid now one two =
       let joined = taken-then n m first two.0 before mid two.3 one two.4 in
       record {
@@ -45,20 +42,7 @@ module _ {K : Type 0} (writes : K → List ℕ → ℕ → K → Type 0) where
 
   -- a fault before more text
   pub until-more : (first second : List ℕ) (before now : K) → WritesUntilFault writes first before now → WritesUntilFault writes (first ++ second) before now
-  until-more first second before now one = record {
-    done = one.done;
-    piece = one.piece;
-    rest = one.rest ++ second;
-    is_text =
-        ap (λ (l : List ℕ). l ++ second) one.is_text
-        ∙ append_assoc one.done (one.piece ++ one.rest) second
-        ∙ ap (λ (l : List ℕ). one.done ++ l) (append_assoc one.piece one.rest second);
-    some = one.some;
-    calls = one.calls;
-    cut_at = one.cut_at;
-    turns = one.turns;
-    failed = one.failed;
-  }
+  until-more first second before now one = grind (arith, append_assoc)
 
   -- writes of what is left of a piece, in turn
   taken-turns : (bytes : List ℕ) (calls done : ℕ) (first last : K) → done ≤ length bytes → WritesTake writes bytes calls done first last → WritesTaken writes calls (take done bytes) first last
@@ -79,12 +63,7 @@ module _ {K : Type 0} (writes : K → List ℕ → ℕ → K → Type 0) where
 
   -- a piece that was written whole
   pub whole-piece : (bytes : List ℕ) (first last : K) → IsWritten writes bytes first last → WritesWhole writes bytes first last
-  whole-piece bytes first last made = record {
-    calls = made.calls;
-    turns =
-        subst (λ (t : List ℕ). WritesTaken writes made.calls t first last) (take_all (length bytes) bytes (omega arith))
-        (taken-turns bytes made.calls (length bytes) first last (omega arith) made.turns);
-  }
+  whole-piece bytes first last made = grind (arith, take_all, taken-turns)
 
   -- a piece of which a write failed
   pub until-piece : (bytes : List ℕ) (count : ℕ) (first last : K) → IsCutOff writes bytes count first last → WritesUntilFault writes bytes first last

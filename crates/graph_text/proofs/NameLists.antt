@@ -95,9 +95,7 @@ module _ (same : String Global → String Global → Bool) (tells : (a b : Strin
       ap₂ ◌||◌ (tells text key ∙ parts.0) (absent keys text parts.1)
 
   pub keys-inserted : (keys : List (String Global)) (text : String Global) (name : List ℕ) → string_bytes text ≡ name → is_among (map string_bytes keys) name ≡ false → map string_bytes (insert_key same keys text) ≡ map string_bytes keys ++ name ∷ []
-  keys-inserted keys text name is none =
-      let new = absent keys text (subst (λ n. is_among (map string_bytes keys) n ≡ false) (sym is) none) in
-      grind (arith, map-append string_bytes keys (text ∷ []))
+  keys-inserted keys text name is none = grind (arith, absent, string_bytes, map-append)
 
   pub AreNames-inserted : {B E : Type 0} (r : Result B E) (old new : List (String Global)) (text : String Global) (name : List ℕ) → IfOk r (λ _. new ≡ insert_key same old text) → OnErr r (new ≡ old) → string_bytes text ≡ name → is_name name ≡ true → is_among (map string_bytes old) name ≡ false → length (map string_bytes old) < 128 → AreNames (map string_bytes old) → AreNames (map string_bytes new)
   AreNames-inserted (Ok b) old new text name keys err text_is is none few are =

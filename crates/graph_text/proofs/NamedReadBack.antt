@@ -34,10 +34,7 @@ form done name more are = grind (arith, get_or-append_seam done name more, each-
 -- the lines of all names
 names-taken : (order edges : ℕ) (done more : List (List ℕ)) → length done + length more ≡ order → AreNames (done ++ more) → Begins either_version (Some (either order edges done [])) (map name_words more) (Some (either order edges (done ++ more) []))
 names-taken order edges done [] all are = ap (λ names. Some (either order edges names [])) (append-nil done)
-names-taken order edges done (name ∷ more) all are =
-    let together = append_assoc done (name ∷ []) more in
-    let rest = names-taken order edges (done ++ name ∷ []) more (omega (arith, length-append done (name ∷ []))) (subst AreNames (sym together) are) in
-    (either order edges (done ++ name ∷ []) [], name-taken order edges done name (omega arith) (form done name more are) (fresh done name more are), subst (λ names. Begins either_version (Some (either order edges (done ++ name ∷ []) [])) (map name_words more) (Some (either order edges names []))) together rest)
+names-taken order edges done (name ∷ more) all are = grind (arith, append_assoc, length-append, name-taken, form, fresh, names-taken order edges (done ++ name ∷ []) more)
 
 -- the name of a vertex is among the names, at its place
 place-name : (names : List (List ℕ)) (v : ℕ) → AreNames names → Within (length names) v → vertex_of names (get_or names (v - 1) []) ≡ v
@@ -57,9 +54,7 @@ edge-taken order edges names a b done all are wanted is = grind (arith, among-na
 -- the lines of all edges
 edges-taken : (order edges : ℕ) (names : List (List ℕ)) (done more : List (ℕ × ℕ)) → length names ≡ order → AreNames names → length done + length more ≡ edges → AllByRecursion (IsEdgeIn order) more → Begins either_version (Some (either order edges names done)) (map (named_edge_words names) more) (Some (either order edges names (done ++ more)))
 edges-taken order edges names done [] few are all is = ap (λ (ends : List (ℕ × ℕ)). Some (either order edges names ends)) (append-nil done)
-edges-taken order edges names done (edge ∷ more) few are all is =
-    let rest = edges-taken order edges names (done ++ edge ∷ []) more few are (omega (arith, length-append done (edge ∷ []))) is.1 in
-    (either order edges names (done ++ edge ∷ []), edge-taken order edges names edge.0 edge.1 done few are (omega arith) is.0, subst (λ (ends : List (ℕ × ℕ)). Begins either_version (Some (either order edges names (done ++ edge ∷ []))) (map (named_edge_words names) more) (Some (either order edges names ends))) (append_assoc done (edge ∷ []) more) rest)
+edges-taken order edges names done (edge ∷ more) few are all is = grind (arith, length-append, edge-taken, append_assoc, edges-taken order edges names (done ++ edge ∷ []) more few are)
 
 -- a name is a word
 name_byte-plain : (byte : ℕ) → is_name_byte byte ≡ true → not (is_blank byte || is_line_feed byte) ≡ true
@@ -86,11 +81,7 @@ names-significant (name ∷ names) each = grind (arith, is_word-name name each.0
 
 edges-significant : (names : List (List ℕ)) (ends : List (ℕ × ℕ)) → AreNames names → AllByRecursion (IsEdgeIn (length names)) ends → AllByRecursion IsSignificant (map (named_edge_words names) ends)
 edges-significant names [] are is = tt
-edges-significant names (edge ∷ ends) are is =
-    let low = is.0.0 in let high = is.0.1 in
-    let first = is_word-name (get_or names (edge.0 - 1) []) (each-name names (edge.0 - 1) are.each (omega arith)) in
-    let second = is_word-name (get_or names (edge.1 - 1) []) (each-name names (edge.1 - 1) are.each (omega arith)) in
-    (record { kept = refl; each = (refl, (first, (second, tt))) }, edges-significant names ends are is.1)
+edges-significant names (edge ∷ ends) are is = grind (arith, is_word-name, get_or, each-name, edges-significant names ends are is.1)
 
 -- the text of a graph with names stands for them
 pub Stands-named_text : (g : Graph) (names : List (List ℕ)) → FitsNames g names → Stands either_version (named_text g names) (record { graph = g; names = Some names })

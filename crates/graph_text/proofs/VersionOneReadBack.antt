@@ -1,7 +1,7 @@
 -- The text written for a graph in version 1 is read as this graph: the header leads to the graph
 -- without edges, and the line of each edge adds it, by induction over the edges. No test of the
 -- tables applies.
-use Rattle.counting.proofs.Common.{◌≡◌, ◌+◌, ◌≤◌, ◌<◌, ℕ, List, [], ◌∷◌, ◌++◌, length, map, true, Some, Ok, refl, ap, subst, arith, append_assoc, AllByRecursion, nat_tests, append-nil, length-append}
+use Rattle.counting.proofs.Common.{◌≡◌, ◌+◌, ◌≤◌, ◌<◌, ℕ, List, [], ◌∷◌, ◌++◌, length, map, true, Some, Ok, refl, ap, arith, append_assoc, AllByRecursion, nat_tests, append-nil, length-append}
 use Rattle.line_text.specs.Common.{Begins, Stands, lines_of, has_form, words_of, unwords, is_skipped, IsSignificant}
 use Rattle.line_text.proofs.Decimals.{number_of-decimal, is_word-decimal}
 use Rattle.line_text.proofs.ReadBack.{Stands-written, Stands-comments, is_closed-unlines}
@@ -26,9 +26,7 @@ edge-taken order edges a b done wanted few is = grind (arith, number_of-decimal 
 -- the lines of all edges
 edges-taken : (order edges : ℕ) (done more : List (ℕ × ℕ)) → length done + length more ≡ edges → order ≤ 128 → AllByRecursion (IsEdgeIn order) more → Begins version_one (Some (body order edges done)) (map edge_words more) (Some (body order edges (done ++ more)))
 edges-taken order edges done [] all few is = ap (λ (ends : List (ℕ × ℕ)). Some (body order edges ends)) (append-nil done)
-edges-taken order edges done (edge ∷ more) all few is =
-    let rest = edges-taken order edges (done ++ edge ∷ []) more (omega (arith, length-append done (edge ∷ []))) few is.1 in
-    (body order edges (done ++ edge ∷ []), edge-taken order edges edge.0 edge.1 done (omega arith) few is.0, subst (λ (ends : List (ℕ × ℕ)). Begins version_one (Some (body order edges (done ++ edge ∷ []))) (map edge_words more) (Some (body order edges ends))) (append_assoc done (edge ∷ []) more) rest)
+edges-taken order edges done (edge ∷ more) all few is = grind (arith, length-append, edge-taken, append_assoc, edges-taken order edges (done ++ edge ∷ []) more)
 
 -- each line is significant
 pub edges-significant : (order : ℕ) (ends : List (ℕ × ℕ)) → order ≤ 128 → AllByRecursion (IsEdgeIn order) ends → AllByRecursion IsSignificant (map edge_words ends)

@@ -14,10 +14,6 @@ pub record KeepsFirst (g : Graph) (k : ℕ) (h : Graph) : Type 0 where
   pub few : size h ≤ k
   pub pairs : (u v : ℕ) → adjacent h none u v ≡ some k (has_ends g u v)
 
-pub keeps_none : (g h : Graph) (n : ℕ) → n ≡ g.order → h ≡ record { order = n; ends = [] } → KeepsFirst g 0 h
-keeps_none g h n same is =
-    subst (λ (q : Graph). KeepsFirst g 0 q) (sym is) (record { order = same; distinct = tt; few = omega arith; pairs = λ u v. refl })
-
 or_false : (b : Bool) → (b || false) ≡ b
 or_false false = refl
 or_false true = refl

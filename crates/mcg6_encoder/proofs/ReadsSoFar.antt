@@ -6,7 +6,7 @@ use Rattle.counting.proofs.Common.{length-append}
 use Rattle.outside.specs.Common.{prepended, IsAtEnd, most_bytes}
 use Rattle.mcg6_reader.specs.Common.{IsKnownLeft}
 use Rattle.mcg6_reader.proofs.LeftBytes.{prepended-nil, prepended-prepended, list_ends}
-use Rattle.mcg6_encoder.specs.Reads.{IsReadPast, IsReadSome, IsReadTorn, IsReadWhole, LeavesMore, ReadsGive, most_piece}
+use Rattle.mcg6_encoder.specs.Reads.{IsReadPast, IsReadSome, IsReadWhole, LeavesMore, ReadsGive, most_piece}
 
 -- these bytes were read
 pub record ReadSoFar {S : Type 0} (left : S → Option (List ℕ)) (reads : S → Option (List ℕ) → S → Type 0) (held : List ℕ) (first now : S) : Type 0 where
@@ -34,13 +34,6 @@ so_far_piece left reads held piece more first now next so_far reading taken is =
       so_far.leaves ∙ ap (prepended held) taken ∙ prepended-prepended held piece (left next)
       ∙ ap (λ (t : List ℕ). prepended t (left next)) (sym is);
 }
-
--- the source is at its end
-pub read_whole :
-    {S : Type 0} (left : S → Option (List ℕ)) (reads : S → Option (List ℕ) → S → Type 0) (held : List ℕ) (first now last : S) →
-    ReadSoFar left reads held first now → reads now (Some []) last → length held ≤ most_bytes → IsReadWhole reads held first last
-read_whole left reads held first now last so_far reading short =
-    record { count = so_far.count; at = now; turns = so_far.turns; ended = reading; short = short }
 
 pub left_whole :
     {S : Type 0} (left : S → Option (List ℕ)) (reads : S → Option (List ℕ) → S → Type 0) (held : List ℕ) (first now last : S) →
@@ -91,17 +84,9 @@ some_read reads bytes first last whole = record {
 
 leaves_more : (before now : Option (List ℕ)) (held : List ℕ) → before ≡ prepended held now → most_bytes < length held → LeavesMore before
 leaves_more before None held leaves longer = subst LeavesMore (sym leaves) tt
-leaves_more before (Some rest) held leaves longer =
-    subst LeavesMore (sym leaves) (let whole = length-append held rest in omega arith)
+leaves_more before (Some rest) held leaves longer = grind (arith, length-append)
 
 pub left_past :
     {S : Type 0} (left : S → Option (List ℕ)) (reads : S → Option (List ℕ) → S → Type 0) (held : List ℕ) (first now : S) →
     ReadSoFar left reads held first now → most_bytes < length held → LeavesMore (left first)
 left_past left reads held first now so_far longer = leaves_more (left first) (left now) held so_far.leaves longer
-
--- a read failed
-pub read_torn :
-    {S : Type 0} (left : S → Option (List ℕ)) (reads : S → Option (List ℕ) → S → Type 0) (held : List ℕ) (first now last : S) →
-    ReadSoFar left reads held first now → length held ≤ most_bytes → reads now None last → IsReadTorn reads first last
-read_torn left reads held first now last so_far short failed =
-    record { bytes = held; count = so_far.count; at = now; turns = so_far.turns; short = short; failed = failed }

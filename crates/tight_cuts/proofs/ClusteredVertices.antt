@@ -31,10 +31,7 @@ module _ (g : Graph) (is : IsGraph g) (cov : IsCovered g) (e : ℕ) (we : Within
 
   -- so an edge between two vertices that are not separated gives nothing
   pub edge_settled : (list : List Candidate) → AreUnparted g (first_end g e) (second_end g e) → list ≡ with_edge_cut g list e
-  edge_settled list level = elim (cases_Bool (list_any (cuts g e) list)) [
-    | inl h ↦ edge-known g list e h
-    | inr f ↦ let none = unparted_none level in grind arith
-  ]
+  edge_settled list level = grind (arith, cases_Bool, list_any, edge-known, unparted_none)
 
 -- the ends of an edge, by the set of one of them
 pub set_unparted : (g : Graph) (rows : List (List ℕ)) (e a b : ℕ) (set : List ℕ) → AreClusters g rows → Within g.order a → a ≡ first_end g e → b ≡ second_end g e → set ≡ item rows a → mem set b ≡ true → AreUnparted g (first_end g e) (second_end g e)

@@ -39,10 +39,7 @@ module _ (g : Graph) (p : List (List ℕ)) (x : List ℕ) (is : IsGraph g) (pp :
       record { inside = omega arith; outside = omega arith }
 
   below : (rows : List (List ℕ)) → AreClustersAt g p rows → AreClustersAt g (merged p x) rows
-  below rows c = record {
-    one_each = c.one_each;
-    unparted = λ u v w h y t new. c.unparted u v w h y (tight-before g p x is pp.partition rises tight covered y t) (before y t new);
-  }
+  below rows c = grind (arith, tight-before, before)
 
 -- clusters stay clusters at both places below a cut
 module _ (g : Graph) (p : List (List ℕ)) (x : List ℕ) (rows : List (List ℕ)) (is : IsGraph g) (pp : IsPartition g.order p) (covered : IsCovered (quotient g p)) (cuts : IsCutAt g p x) (c : AreClustersAt g p rows) where
@@ -92,8 +89,7 @@ module _ (g : Graph) (p : List (List ℕ)) (is : IsGraph g) (pp : IsPartition g.
 
   pub clusters-of_blocks : (q rows sets : List (List ℕ)) → q ≡ p → AreClustersAt g p rows → length sets ≡ length q →
       ((i j : ℕ) → Within (length q) i → mem (item sets i) j ≡ true → Within (length q) j × (mem (item rows (last_of (block q i))) (last_of (block q j)) ≡ true)) → AreClusters (quotient g p) sets
-  clusters-of_blocks q rows sets same c long each = of_blocks rows sets c (long ∙ ap length same)
-      (subst (λ (q : List (List ℕ)). (i j : ℕ) → Within (length q) i → mem (item sets i) j ≡ true → Within (length q) j × (mem (item rows (last_of (block q i))) (last_of (block q j)) ≡ true)) same each)
+  clusters-of_blocks q rows sets same c long each = grind (arith, of_blocks, mem, item, last_of, block)
 
   -- and back: each vertex has the blocks of the cluster of its own
   of_vertices : (sets rows : List (List ℕ)) → AreClusters (quotient g p) sets → length rows ≡ g.order →
@@ -112,8 +108,7 @@ module _ (g : Graph) (p : List (List ℕ)) (is : IsGraph g) (pp : IsPartition g.
 
   pub clusters-of_vertices : (q sets rows : List (List ℕ)) → q ≡ p → AreClusters (quotient g p) sets → length rows ≡ g.order →
       ((v : ℕ) → Within g.order v → item rows v ≡ union_of_blocks g q (mem (item sets (place q v)))) → AreClustersAt g p rows
-  clusters-of_vertices q sets rows same c long each = of_vertices sets rows c long
-      (subst (λ (q : List (List ℕ)). (v : ℕ) → Within g.order v → item rows v ≡ union_of_blocks g q (mem (item sets (place q v)))) same each)
+  clusters-of_vertices q sets rows same c long each = grind (arith, of_vertices, item, union_of_blocks, mem, place)
 
   -- at single vertices the clusters are those of the graph
   module _ (many : length p ≡ g.order) (rows : List (List ℕ)) where

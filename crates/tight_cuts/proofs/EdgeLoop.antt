@@ -14,10 +14,7 @@ same_pair k j = (j.0 == k.0) && (j.1 == k.1)
 
 find_some : (p : ℕ × ℕ → Bool) (xs : List (ℕ × ℕ)) (k : ℕ × ℕ) → find p xs ≡ Some k → (p k ≡ true) × (list_any (same_pair k) xs ≡ true)
 find_some p [] k h = cc
-find_some p (x ∷ xs) k h = elim (cases_Bool (p x)) [
-  | inl t ↦ grind arith
-  | inr f ↦ let r = find_some p xs k (ap (λ b. cond b (Some x) (find p xs)) (sym f) ∙ h) in (r.0, or_right (same_pair k x) (list_any (same_pair k) xs) r.1)
-]
+find_some p (x ∷ xs) k h = grind (arith, cases_Bool, find, or_right, list_any, find_some p xs k)
 
 find_none : (p : ℕ × ℕ → Bool) (xs : List (ℕ × ℕ)) → find p xs ≡ None → list_any p xs ≡ false
 find_none p [] h = refl

@@ -50,9 +50,7 @@ module _ (g : Graph) (lim : IsWithinLimits g) (cov : IsCovered g) (e : ℕ) (we 
 
   -- if it lacks y it is the common shore of x and y
   shore_common : (y : ℕ) → Within g.order y → SeparatesTightly g a b (x, b) shore → shore y ≡ false → (v : ℕ) → Within g.order v → shore v ≡ common_shore g a b (x, y) v
-  shore_common y wy p l v w = same_tests (shore v) (common_shore g a b (x, y) v)
-      (λ t. common_from g is a b (x, y) wa wb wx wy v (λ z q. shore_in z (narrower g a b x y z q) v w t))
-      (λ t. common_in g is a b (x, y) wa wb wx wy v w t shore (wider g a b x y shore p l))
+  shore_common y wy p l v w = grind (arith, same_tests, common_from, is, wa, wb, shore_in, narrower, common_in, wider)
 
   -- it separates x from each vertex that it lacks, but b
   shore_separated : (y : ℕ) → Within g.order y → SeparatesTightly g a b (x, b) shore → pair_set a b x ≡ false → y ≢ b → shore y ≡ false → is_separated g a b (x, y) ≡ true

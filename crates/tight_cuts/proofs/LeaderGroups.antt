@@ -99,22 +99,10 @@ module _ (g h : Graph) (is : IsGraph h) (order : h.order ≡ g.order) (a b : ℕ
 
   -- an end of the edge and a vertex outside in one group
   end_apart : (u v : ℕ) → Within g.order u → Within g.order v → pair_set a b u ≡ true → pair_set a b v ≡ false → group u ≡ group v → ((in_piece h a b a x u ≡ true) × (in_piece h a b a x v ≡ true)) ⊎ ((in_piece h a b b y u ≡ true) × (in_piece h a b b y v ≡ true))
-  end_apart u v wu wv pu pv q =
-      let off = off_pair v wv pv in
-      let e = group_end u wu pu in
-      elim (or_cases (a == u) (b == u) pu) [
-        | inl s ↦ grind (arith, eqb-true, or_left, or_right, led_joined, group_a)
-        | inr s ↦ grind (arith, eqb-true b u s, group_b (piece_leader v) off.1, or_left (b == u) (joined h (pair_set a b) y u) s, or_right (b == v) (joined h (pair_set a b) y v), led_joined y v wy wv)
-      ]
+  end_apart u v wu wv pu pv q = grind (arith, off_pair, group_end, or_cases, eqb-true, or_left, or_right, led_joined, group_a, group_b, joined, pair_set)
 
   apart_groups : (u v : ℕ) → Within g.order u → Within g.order v → group u ≡ group v → OneGroup u v
-  apart_groups u v wu wv q = elim (cases_Bool (pair_set a b u)) [
-    | inl pu ↦ grind (arith, cases_Bool (pair_set a b v), group_end u wu pu, group_end v wv, own_joined u wu, end_apart u v wu wv pu)
-    | inr pu ↦ elim (cases_Bool (pair_set a b v)) [
-      | inl pv ↦ inr (elim (end_apart v u wv wu pv pu (sym q)) [ inl k ↦ inl (k.1, k.0) | inr k ↦ inr (k.1, k.0) ])
-      | inr pv ↦ grind (arith, off_pair, group-cases, leader-joins, or_right, led_joined)
-    ]
-  ]
+  apart_groups u v wu wv q = grind (arith, cases_Bool, pair_set, group_end, own_joined, end_apart, off_pair, group-cases, leader-joins, or_right, led_joined)
 
   -- the leaders give the groups
   pub leaders_group : IsGrouping g h a b (x, y) g.order group

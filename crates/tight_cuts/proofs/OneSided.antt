@@ -83,10 +83,7 @@ widened_by_row g is e u we r x y row near ends one xu partners beside each = wid
 
 -- a set with the cluster of one of its vertices
 pub with_cluster : (g : Graph) (e u : ℕ) (rows : List (List ℕ)) (x y : Set) → AreClusters g rows → Within g.order u → IsOneSided g e x → x u ≡ true → ((v : ℕ) → y v ≡ (x v || mem (item rows u) v)) → IsOneSided g e y
-with_cluster g e u rows x y clusters wu one xu is = widened g e u x y one xu (λ v h. elim (or_cases (x v) (mem (item rows u) v) (sym (is v) ∙ h)) [
-  | inl k ↦ inl k
-  | inr k ↦ inr (λ z tight nontrivial cut. clusters.unparted u v wu k z tight nontrivial)
-])
+with_cluster g e u rows x y clusters wu one xu is = grind (arith, widened, or_cases, mem, item)
 
 -- a set that holds all vertices but the ends of e
 pub none_parted : (g : Graph) → IsGraph g → (e : ℕ) → Within (size g) e → (x : Set) → IsOneSided g e x → ((v : ℕ) → Within g.order v → first_end g e ≢ v → second_end g e ≢ v → x v ≡ true) → first_separated g e ≡ None

@@ -1,6 +1,6 @@
 -- The pieces of an edge. Idea: an edge that lies together with it meets neither of its ends, so
 -- it stays in one piece, and a tight set has it on one side.
-use Rattle.counting.proofs.Common.{◌≡◌, ℕ, ◌≤◌, ◌≢◌, Bool, true, false, ◌==◌, sym, ap, ap₂, ◌∙◌, arith, ◌&&◌, ◌||◌, not, ne_eqb, or_from, both_ways, not-true, alike_not_apart, complement_odd, same_tests, count, Within, is_odd, Set, none, complement, pair_set}
+use Rattle.counting.proofs.Common.{◌≡◌, ℕ, ◌≤◌, ◌≢◌, Bool, true, false, sym, ap, ap₂, ◌∙◌, arith, ◌&&◌, ◌||◌, not, ne_eqb, or_from, both_ways, not-true, alike_not_apart, complement_odd, same_tests, count, Within, is_odd, Set, none, complement, pair_set}
 use Rattle.barrier_kit.proofs.Common.{part_step, even_order}
 use Rattle.graph_core.proofs.Common.{joined_walk, walk_joined, ends_of, two_ends_le_degree, has_ends-cases, adjacent-edge, adjacent_within, Walk-stays, IsClosed, joined_self, Graph, size, first_end, second_end, IsGraph, in_cut, has_ends, IsPerfect, Together, IsTight, joined, Joined, adjacent}
 use Rattle.tight_cuts.proofs.PairsOfEdges.{lone_cut, odd_from_one, others_stay, cut_between}
@@ -43,11 +43,7 @@ module _ (g h : Graph) (is : IsGraph g) (a b e : ℕ) (wa : Within g.order a) (w
 
   -- an edge that lies together with e has no end a or b
   pub outside_pair : (f : ℕ) → Within (size g) f → f ≢ e → Together g e f → (pair_set a b (first_end g f) ≡ false) × (pair_set a b (second_end g f) ≡ false)
-  outside_pair f wf d t =
-      let n = ends_at g a b e ends in
-      let p = apart_ends g t.0 e f a t.1 wa we wf (λ q. d (sym q)) t.2 t.3 n.0 in
-      let q = apart_ends g t.0 e f b t.1 wb we wf (λ q. d (sym q)) t.2 t.3 n.1 in
-      (or_from (a == first_end g f) (b == first_end g f) (ne_eqb a (first_end g f) p.0) (ne_eqb b (first_end g f) q.0), or_from (a == second_end g f) (b == second_end g f) (ne_eqb a (second_end g f) p.1) (ne_eqb b (second_end g f) q.1))
+  outside_pair f wf d t = grind (arith, ends_at, apart_ends, or_from, first_end, ne_eqb, second_end)
 
   -- an edge of the perfect matching with e stays in each piece
   beside_stays : (f u : ℕ) → Within g.order u → Within (size g) f → f ≢ e → beside.base f ≡ true → joined h (pair_set a b) u (first_end g f) ≡ joined h (pair_set a b) u (second_end g f)

@@ -84,7 +84,4 @@ with_covers g o list x e is w nt ce = elim (with_cases g.order o list x) [
 
 -- a nontrivial shore with an edge in its cut that is in the cut of no candidate is appended
 pub with_new : (g : Graph) (o : Origin) (list : List Candidate) (x : Set) (e : ℕ) → IsGraph g → Within (size g) e → IsNontrivial g.order x → in_cut g x e ≡ true → list_any (cuts g e) list ≡ false → with_shore g.order o list x ≡ list ++ candidate g.order o (canonical_shore g.order x) ∷ []
-with_new g o list x e is w nt ce unlisted = elim (with_cases g.order o list x) [
-  | inl c ↦ absurd (both_ways (list_any (cuts g e) list) unlisted (ap (list_any (cuts g e)) (sym c.0) ∙ with_covers g o list x e is w nt ce))
-  | inr c ↦ c.0
-]
+with_new g o list x e is w nt ce unlisted = grind (arith, with_cases, both_ways, list_any, with_covers)

@@ -31,10 +31,7 @@ module _ (g h : Graph) (x : Set) (u : ℕ) (is : IsGraph g) (t : IsTurned g x u 
 
   -- and the matching is perfect in the turned graph
   pub perfect_turned : IsPerfect h none m
-  perfect_turned = record {
-    once = λ v w o. let r = t.order in degrees v ∙ perfect.once v (w.0, let l = w.1 in omega arith) refl;
-    away = λ v w q. cc;
-  }
+  perfect_turned = grind (arith, degrees)
 
 -- each row of a matching has an edge of it
 row_held : (rows : List MatchRow) (k : ℕ) (d : MatchRow) → k < length rows → mem (map edge_of rows) (slice_index_or rows k d).edge ≡ true
@@ -64,20 +61,14 @@ turned_alone g h x u is multi t apart m e f v perfect we wf me mf le lf l = apar
 
 -- each edge of the cut leaves the set at a vertex
 pub leaves_at : (g : Graph) (x : Set) (e : ℕ) → IsGraph g → Within (size g) e → in_cut g x e ≡ true → (u : ℕ) × Within g.order u × Leaves g x u e
-leaves_at g x e is we cut = elim (cases_Bool (x (first_end g e))) [
-  | inl a ↦ (first_end g e, (is e we).0, record { inside = a; end = inl refl; cut = cut })
-  | inr a ↦ (second_end g e, (is e we).1, record { inside = grind arith; end = inr refl; cut = cut })
-]
+leaves_at g x e is we cut = grind (arith, cases_Bool, first_end, second_end)
 
 -- one edge more of the turned graph
 pub turned_more : (g h : Graph) (x : Set) (u k a b : ℕ) → size h ≡ k →
     ((d : ℕ) → Within k d → (IsEnd g d u → in_cut g x d ≡ true) → (first_end h d ≡ first_end g d) × (second_end h d ≡ second_end g d)) →
     ((IsEnd g (k + 1) u → in_cut g x (k + 1) ≡ true) → (a ≡ first_end g (k + 1)) × (b ≡ second_end g (k + 1))) →
     (d : ℕ) → Within (k + 1) d → (IsEnd g d u → in_cut g x d ≡ true) → (first_end (with_edge h a b) d ≡ first_end g d) × (second_end (with_edge h a b) d ≡ second_end g d)
-turned_more g h x u k a b long same new d w cut = elim (cases_lt k d) [
-  | inl l ↦ let q : d ≡ k + 1 = omega arith in let n = ends-new h a b in grind arith
-  | inr l ↦ let v : Within (size h) d = (w.0, omega arith) in let o = ends-old h a b d v in let s = same d (w.0, l) cut in (o.0 ∙ s.0, o.1 ∙ s.1)
-]
+turned_more g h x u k a b long same new d w cut = grind (arith, cases_lt, ends-new, size, ends-old)
 
 -- an edge that leaves the set at v joins v to a vertex outside
 leaves_to : (g : Graph) (x : Set) (v e : ℕ) → Within (size g) e → Leaves g x v e →

@@ -40,16 +40,10 @@ module _ (g : Graph) (n : ℕ) (p : List (List ℕ)) (s t : Shape) (y : List ℕ
     ended = script_end g p s ms (cut y k1 r1) ds (rising-derivation_at g p s ds) script
 
     asks_kept_both : (q : List (List ℕ)) (a b : Shape) → q ≡ kept_at g.order p y → a ≡ k1 → b ≡ k2 → IsDerivationAt g q a × IsDerivationAt g q b
-    asks_kept_both q a b eq ea eb = (
-      subst (λ q. IsDerivationAt g q a) (sym eq) (subst (IsDerivationAt g (kept_at g.order p y)) (sym ea) ended.0.1),
-      subst (λ q. IsDerivationAt g q b) (sym eq) (subst (IsDerivationAt g (kept_at g.order p y)) (sym eb) second.1),
-    )
+    asks_kept_both q a b eq ea eb = grind (arith, kept_at, ended, second)
 
     asks_merged_both : (q : List (List ℕ)) (a b : Shape) → q ≡ merged_at g.order p y → a ≡ r1 → b ≡ r2 → IsDerivationAt g q a × IsDerivationAt g q b
-    asks_merged_both q a b eq ea eb = (
-      subst (λ q. IsDerivationAt g q a) (sym eq) (subst (IsDerivationAt g (merged_at g.order p y)) (sym ea) ended.0.2),
-      subst (λ q. IsDerivationAt g q b) (sym eq) (subst (IsDerivationAt g (merged_at g.order p y)) (sym eb) second.2),
-    )
+    asks_merged_both q a b eq ea eb = grind (arith, merged_at, ended, second)
 
     module _ (q r : List (List ℕ)) (ks ns : List PlainMove) (k1' k2' r1' r2' : Shape) (eq : q ≡ kept_at g.order p y) (er : r ≡ merged_at g.order p y) (e1 : k1' ≡ k1) (e2 : k2' ≡ k2) (e3 : r1' ≡ r1) (e4 : r2' ≡ r2)
         (wk : IsProperScript g q k1' ks k2') (wr : IsProperScript g r r1' ns r2') (bk : length ks ≤ 5 * (cut_count k1' * cut_count k1')) (br : length ns ≤ 5 * (cut_count r1' * cut_count r1')) where

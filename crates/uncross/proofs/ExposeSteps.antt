@@ -18,10 +18,7 @@ stage_of g n p is e list cov = grind (arith, covered_down g p is)
 
 -- a derivation at the root of which there is a shore to expose is not a leaf
 pub leaf_exposes : (g : Graph) (n : ℕ) (p : List (List ℕ)) (y : List ℕ) (s : Shape) (o : Option (List ℕ)) → IsGraph g → n ≡ g.order → IsPartition n p → IsCovered (quotient g p) → s ≡ leaf → IsDerivationAt g p s → o ≡ Some y → CutIf g p o → ⊥
-leaf_exposes g n p y s o is e list cov l d so c =
-    let st = stage_of g n p is e list cov in
-    let cy = subst (CutIf g p) so c in
-    leaf_not g p y st (subst (IsDerivationAt g p) l d) (cut_big g p st y cy.set cy) cy.canonical
+leaf_exposes g n p y s o is e list cov l d so c = grind (arith, stage_of, leaf_not, cut_big)
 
 -- an exposed tree is a derivation, so it fits
 exposed_derives : (g : Graph) (p : List (List ℕ)) (s t : Shape) (o : Option (List ℕ)) (ms : Option (List PlainMove)) → IsDerivationAt g p s → IsExposed g p s o t ms → IsDerivationAt g p t
@@ -48,16 +45,10 @@ module _ (g : Graph) (n : ℕ) (p : List (List ℕ)) (x y : List ℕ) (a b whole
   is_plan = subst (λ n. IsPlan n p x y plan) e planned
 
   pub asks_kept : (q : List (List ℕ)) (t : Shape) (first : Option (List ℕ)) → q ≡ kept_at g.order p x → t ≡ a → first ≡ first_kept_shore y plan → IsDerivationAt g q t × CutIf g q first
-  asks_kept q t first eq et ef = (
-    subst (λ q. IsDerivationAt g q t) (sym eq) (subst (IsDerivationAt g (kept_at g.order p x)) (sym et) d.1),
-    subst (λ q. CutIf g q first) (sym eq) (subst (CutIf g (kept_at g.order p x)) (sym ef) (first_is_cut g p st x y bx by d.0.canonical cy.canonical plan is_plan)),
-  )
+  asks_kept q t first eq et ef = grind (arith, kept_at, d, first_is_cut, st, bx, by, cy, is_plan)
 
   pub asks_merged : (q : List (List ℕ)) (t : Shape) (second : Option (List ℕ)) → q ≡ merged_at g.order p x → t ≡ b → second ≡ second_shore y plan → IsDerivationAt g q t × CutIf g q second
-  asks_merged q t second eq et ef = (
-    subst (λ q. IsDerivationAt g q t) (sym eq) (subst (IsDerivationAt g (merged_at g.order p x)) (sym et) d.2),
-    subst (λ q. CutIf g q second) (sym eq) (subst (CutIf g (merged_at g.order p x)) (sym ef) (second_is_cut g p st x y bx by d.0.canonical cy.canonical plan is_plan)),
-  )
+  asks_merged q t second eq et ef = grind (arith, merged_at, d, second_is_cut, st, bx, by, cy, is_plan)
 
   -- what came back from the two trees
   module _ (q r : List (List ℕ)) (s t ta tb : Shape) (first second : Option (List ℕ)) (mi mo : Option (List PlainMove)) (eq : q ≡ kept_at g.order p x) (er : r ≡ merged_at g.order p x) (es : s ≡ a) (et : t ≡ b) (ef : first ≡ first_kept_shore y plan) (ec : second ≡ second_shore y plan)

@@ -1,4 +1,3 @@
-use Rattle.std.proofs.Common.{arith}
 use Rattle.graph_core.proofs.Common.{is_allowed_found, is_allowed_says, is_tight_found, is_tight_says}
 use Rattle.definition_laws.proofs.matchings.tight_law.Goals as goal
 
@@ -7,6 +6,3 @@ returns-clause-allowed c g e w = (is_allowed_says g e, is_allowed_found g e w)
 
 pub returns-clause-tight : goal.returns-clause-tight
 returns-clause-tight c g x = (is_tight_says g x, is_tight_found g x)
-
-pub returns-clause-nontrivial : goal.returns-clause-nontrivial
-returns-clause-nontrivial c n x = grind arith

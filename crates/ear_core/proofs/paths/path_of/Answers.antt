@@ -51,12 +51,10 @@ returns-then-is_empty-clause-nowhere c =
     c.edges.invariant.astray ∙ ends_well c.args.g.now c.args.ear.now.«from» (mem c.edges.inner) c.edges.at c.in-Some.e.now c.in-Some-other_end.next c.edges.rest.now c.in-Some.others.now c.in-Some.ensures.cases.0 (edge_within (goal.at.returns-then-is_empty-clause-nowhere c).In-Some) (search rules) (search rules) (search rules) (search rules)
 
 pub returns-then-next-ear-clause-not_path : goal.returns-then-next-ear-clause-not_path
-returns-then-next-ear-clause-not_path c =
-    c.edges.invariant.path ∙ first_again c.args.g.now c.args.ear.now.«from» (mem c.edges.inner) c.edges.at c.in-Some.e.now c.in-Some-other_end.next c.edges.rest.now c.in-Some.others.now c.in-Some.ensures.cases.0 (search rules) (search rules) (search rules)
+returns-then-next-ear-clause-not_path c = grind (arith, first_again, mem)
 
 pub returns-then-next-ear-clause-edge : goal.returns-then-next-ear-clause-edge
-returns-then-next-ear-clause-edge c =
-    sym (c.edges.invariant.astray ∙ back_early c.args.g.now c.args.ear.now.«from» (mem c.edges.inner) c.edges.at c.in-Some.e.now c.in-Some-other_end.next c.edges.rest.now c.in-Some.others.now c.in-Some.ensures.cases.0 (search rules) (search rules) (search rules))
+returns-then-next-ear-clause-edge c = grind (arith, back_early, mem)
 
 pub edges-preserved : goal.edges-preserved
 edges-preserved c =

@@ -3,12 +3,9 @@ use Rattle.std.proofs.lemmas.Result.{err_from_is_err_and}
 use Rattle.std.proofs.lemmas.List.{drop_all}
 use Rattle.outside.specs.declared.sink.SinkFailed.{SinkFailed}
 use Rattle.front_words.specs.Pieces.{pieces_text}
-use Rattle.front_words.proofs.Sayings.{saying-first, saying-next, saying-broken, saying-done}
+use Rattle.front_words.proofs.Sayings.{saying-next, saying-broken, saying-done}
 use Rattle.front_words.proofs.SaidPieces.{piece-first}
 use Rattle.front_words.proofs.pieces.say.Goals as goal
-
-pub saying-init : goal.saying-init
-saying-init g c = saying-first {F = SinkFailed} g.K.Sink.written g.K.Sink.writes g.K.Sink.faults (pieces_text c.args.pieces.now) c.args.sink.now
 
 pub saying-preserved : goal.saying-preserved
 saying-preserved g c =

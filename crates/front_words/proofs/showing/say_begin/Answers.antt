@@ -4,7 +4,7 @@ use Rattle.std.proofs.lemmas.Result.{err_from_is_err_and}
 use Rattle.outside.specs.declared.sink.SinkFailed.{SinkFailed}
 use Rattle.front_words.specs.Showing.{begin_shown, unit_size}
 use Rattle.front_words.specs.UnitsSeen.{unit_shown}
-use Rattle.front_words.proofs.Sayings.{saying-first, saying-next, saying-last, saying-broken, saying-done}
+use Rattle.front_words.proofs.Sayings.{saying-next, saying-last, saying-broken, saying-done}
 use Rattle.front_words.proofs.ShownBytes.{shown-cut, shown-empty, shown-first, unit-within}
 use Rattle.front_words.proofs.showing.say_begin.Goals as goal
 
@@ -18,12 +18,7 @@ emptied text empty is true_is = grind (arith, nat_tests, is, true_is)
 -- the next unit of a text, and the others
 parts : (most size : ℕ) (text unit others : List ℕ) → (length text ≡ 0 → ⊥) → size ≡ unit_size text → 0 < size → size ≤ most → unit ≡ take size text → others ≡ drop size text →
     begin_shown most text ≡ unit_shown unit ++ begin_shown (most - size) others
-parts most size text unit others some is positive enough front back =
-    rw (front, back, is)
-    (shown-first most text some (subst (λ (n : ℕ). n ≤ most) is enough) (subst (λ (n : ℕ). 0 < n) is positive))
-
-pub showing-init : goal.showing-init
-showing-init g c = saying-first {F = SinkFailed} g.K.Sink.written g.K.Sink.writes g.K.Sink.faults (begin_shown c.args.most c.args.text.now) c.args.sink.now
+parts most size text unit others some is positive enough front back = grind (arith, shown-first)
 
 pub split_at-requires : goal.split_at-requires
 split_at-requires g c =
@@ -31,13 +26,7 @@ split_at-requires g c =
     omega (arith, within)
 
 pub showing-preserved : goal.showing-preserved
-showing-preserved g c =
-    saying-next {F = SinkFailed} g.K.Sink.written g.K.Sink.writes g.K.Sink.faults (begin_shown c.args.most c.args.text.now) (begin_shown c.showing.left c.showing.rest.now)
-    (unit_shown c.split_at.result.0.now) (begin_shown (c.showing.left - c.unit_size-size.result) c.split_at.result.1.now) c.args.sink.now c.showing.sink c.say_unit.new.sink
-    (parts c.showing.left c.unit_size-size.result c.showing.rest.now c.split_at.result.0.now c.split_at.result.1.now
-    (filled c.showing.rest.now c.is_empty.result c.is_empty.ensures c.showing-test.true)
-    c.unit_size-size.ensures.size c.unit_size-size.ensures.some c.if-left-size.false c.split_at.ensures.front c.split_at.ensures.back)
-    c.showing.invariant c.in_ok-say_unit.ensures
+showing-preserved g c = grind (arith, saying-next, parts, filled)
 
 pub returns-in_err-say_unit : goal.returns-in_err-say_unit
 returns-in_err-say_unit g c =

@@ -1,7 +1,7 @@
 use Rattle.std.proofs.Common.{◌++◌, [], ◌∷◌, ap, string_bytes, arith, ◌∙◌}
 use Rattle.line_text.specs.Common.{written}
 use Rattle.graph_text.specs.Common.{named_edge_words}
-use Rattle.graph_text.proofs.TextSoFar.{ends-next, lines-all, lines-more}
+use Rattle.graph_text.proofs.TextSoFar.{ends-next, lines-more}
 use Rattle.graph_text.proofs.writing.push_named_edges.Goals as goal
 
 pub loop-i-preserved : goal.loop-i-preserved
@@ -11,9 +11,3 @@ loop-i-preserved c =
     let ends = ends-next c.args.g.now c.loop-i.i c.ends.result.a c.ends.result.b c.ends.ensures.first c.ends.ensures.second in
     lines-more (named_edge_words c.args.names.now) (string_bytes c.args.text.now) c.args.g.now.ends c.loop-i.i (0, 0) (string_bytes c.loop-i.text) (string_bytes c.push_named_edge.new.text) (omega arith) c.loop-i.invariant
     (c.in_ok-push_named_edge.ensures ∙ ap (λ pair. string_bytes c.loop-i.text ++ written ((named_edge_words c.args.names.now) pair ∷ [])) ends)
-
-pub returns : goal.returns
-returns c =
-    let all = c.size-size.ensures.is in
-    let test = c.loop-i-test.false in
-    lines-all (named_edge_words c.args.names.now) (string_bytes c.args.text.now) c.args.g.now.ends c.loop-i.i (string_bytes c.loop-i.text) (omega arith) c.loop-i.invariant

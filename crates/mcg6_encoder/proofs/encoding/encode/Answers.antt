@@ -1,4 +1,4 @@
-use Rattle.std.proofs.Common.{ℕ, List, ◌++◌, Err, ap, refl, subst, inl}
+use Rattle.std.proofs.Common.{ℕ, List, ◌++◌, Err, ap, subst}
 use Rattle.mcg6_encoder.specs.Reads.{WritesUpTo}
 use Rattle.mcg6_encoder.proofs.Encodings.{after_read, file_encoded, long_file, told_file}
 use Rattle.mcg6_encoder.proofs.encoding.encode.Goals as goal
@@ -24,18 +24,8 @@ returns-in-Ok-clause-encodes g c file is =
     told_file c.write_encoded.result (g.S.Source.left c.args.source.now) (g.K.Sink.written c.args.sink.now)
     (g.K.Sink.written c.write_encoded.new.sink) file (returns-in-Ok-clause-tells g c) is
 
-pub returns-in-Err-TooLong-clause-reads_first : goal.returns-in-Err-TooLong-clause-reads_first
-returns-in-Err-TooLong-clause-reads_first g c =
-    inl (record { read = c.in-Err-TooLong.ensures.past (ap Err c.in-Err-TooLong.field-0-is); named = c.too_long.ensures; nothing = refl })
-
 pub returns-in-Err-TooLong-clause-tells : goal.returns-in-Err-TooLong-clause-tells
 returns-in-Err-TooLong-clause-tells g c =
     let past = c.in-Err-TooLong.ensures.past (ap Err c.in-Err-TooLong.field-0-is) in
     long_file c.too_long.result (g.S.Source.left c.args.source.now) (g.K.Sink.written c.args.sink.now) (past.held ++ past.piece)
     (c.in-Err-TooLong.ensures.more (ap Err c.in-Err-TooLong.field-0-is)) past.longer c.too_long.ensures
-
-pub returns-in-Err-Failed-clause-reads_first : goal.returns-in-Err-Failed-clause-reads_first
-returns-in-Err-Failed-clause-reads_first g c = (c.in-Err-Failed.ensures.torn (ap Err c.in-Err-Failed.field-0-is), refl)
-
-pub returns-in-Err-Memory-clause-reads_first : goal.returns-in-Err-Memory-clause-reads_first
-returns-in-Err-Memory-clause-reads_first g c = (c.in-Err-Memory.ensures.unread (ap Err c.in-Err-Memory.field-0-is), refl)

@@ -1,8 +1,8 @@
-use Rattle.std.proofs.Common.{◌≡◌, ◌≤◌, ℕ, List, ap, [], length, take, rules, arith, Some, None}
+use Rattle.std.proofs.Common.{◌≡◌, ◌≤◌, ℕ, List, [], length, take, rules, arith}
 use Rattle.std.proofs.lemmas.List.{length-take-le}
 use Rattle.outside.specs.Common.{prepended, IsAtEnd, most_bytes}
 use Rattle.mcg6_encoder.specs.Reads.{most_piece}
-use Rattle.mcg6_encoder.proofs.ReadsSoFar.{left_past, left_whole, read_none, read_past, read_some, read_torn, read_whole, so_far_none, so_far_piece}
+use Rattle.mcg6_encoder.proofs.ReadsSoFar.{left_past, left_whole, read_none, read_past, read_some, so_far_none, so_far_piece}
 use Rattle.mcg6_encoder.proofs.reading.read_file.Goals as goal
 
 -- what is taken of a piece is not longer than that
@@ -10,13 +10,7 @@ few-taken : (count : ℕ) (piece : List ℕ) → count ≤ length piece → leng
 few-taken count piece within few = let size = length-take-le count piece within in omega (arith, size, few, within)
 
 pub reading-init : goal.reading-init
-reading-init g c = record {
-  so_far = so_far_none g.S.Source.left g.S.Source.reads c.new-held.result.items c.args.source.now c.new-held.ensures.items;
-  past = λ longer. absurd (let none = ap (λ (l : List ℕ). length l) c.new-held.ensures.items in omega (arith, none, longer));
-  faults = omega arith;
-  some = search rules;
-  small = search rules;
-}
+reading-init g c = grind (arith, so_far_none)
 
 pub reading-preserved : goal.reading-preserved
 reading-preserved g c = record {
@@ -35,30 +29,12 @@ reading-preserved g c = record {
   small = let small = c.reading.invariant.small in omega arith;
 }
 
-pub returns-in-Err-read-clause-torn : goal.returns-in-Err-read-clause-torn
-returns-in-Err-read-clause-torn g c is =
-    let reading : g.S.Source.reads c.reading.source None c.read.new.self = search rules in
-    let short : length c.reading.held.items ≤ most_bytes = omega arith in
-    read_torn g.S.Source.left g.S.Source.reads c.reading.held.items c.args.source.now c.reading.source c.read.new.self
-    c.reading.invariant.so_far short reading
-
-pub returns-in-Ok-eq0-clause-whole : goal.returns-in-Ok-eq0-clause-whole
-returns-in-Ok-eq0-clause-whole g c =
-    let reading : g.S.Source.reads c.reading.source (Some []) c.read.new.self = search rules in
-    let short : length c.reading.held.items ≤ most_bytes = omega arith in
-    read_whole g.S.Source.left g.S.Source.reads c.reading.held.items c.args.source.now c.reading.source c.read.new.self
-    c.reading.invariant.so_far reading short
-
 pub returns-in-Ok-eq0-clause-left : goal.returns-in-Ok-eq0-clause-left
 returns-in-Ok-eq0-clause-left g c =
     let taken : g.S.Source.left c.reading.source ≡ prepended [] (g.S.Source.left c.read.new.self) = search rules in
     let end : IsAtEnd (g.S.Source.left c.read.new.self) = let some = c.reading.invariant.some in c.in-Ok-eq0.ensures.end (search rules) (omega arith) in
     left_whole g.S.Source.left g.S.Source.reads c.reading.held.items c.args.source.now c.reading.source c.read.new.self
     c.reading.invariant.so_far taken end
-
-pub returns-clause-past : goal.returns-clause-past
-returns-clause-past g c is =
-    c.reading.invariant.past (omega arith)
 
 pub returns-clause-more : goal.returns-clause-more
 returns-clause-more g c is =

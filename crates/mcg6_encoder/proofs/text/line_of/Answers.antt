@@ -2,9 +2,6 @@ use Rattle.std.proofs.Common.{◌∙◌, ◌∷◌, ◌++◌, [], List, ℕ, ap}
 use Rattle.mcg6_encoder.proofs.Beneath.{graph6_beneath}
 use Rattle.mcg6_encoder.proofs.text.line_of.Goals as goal
 
-pub write_graph6-requires : goal.write_graph6-requires
-write_graph6-requires c = c.in_ok-simple.ensures.simple
-
 pub returns : goal.returns
 returns c =
     c.in_ok-push.ensures.items

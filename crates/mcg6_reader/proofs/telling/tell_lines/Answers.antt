@@ -1,15 +1,12 @@
 use Rattle.std.proofs.Common.{◌<◌, length, rules, arith}
 use Rattle.outside.specs.Common.{most_line}
-use Rattle.mcg6_reader.specs.Common.{HasNoFeed, IsFirstLine, Reports}
+use Rattle.mcg6_reader.specs.Common.{HasNoFeed, IsFirstLine}
 use Rattle.mcg6_reader.proofs.Pieces.{through_long, through_none, through_more, through_stopped}
 use Rattle.mcg6_reader.proofs.Skips.{with_long, with_stopped}
 use Rattle.mcg6_reader.proofs.telling.tell_lines.Goals as goal
 
 pub telling-init : goal.telling-init
-telling-init g c = record {
-  told = through_none (g.T.LineTeller.tells c.args.teller.now) c.args.first c.args.text.now c.args.output.now.items;
-  reported = through_none (Reports (g.T.LineTeller.skips c.args.teller.now)) c.args.first c.args.text.now c.args.skipped.now.items;
-}
+telling-init g c = grind (arith, through_none)
 
 pub telling-preserved : goal.telling-preserved
 telling-preserved g c = grind (arith, through_more)
@@ -23,12 +20,7 @@ returns-in-Err-clause-bad g c =
     c.in-Err.ensures.bad c.in-Err.ensures.same
 
 pub returns-in-Err-clause-stopped : goal.returns-in-Err-clause-stopped
-returns-in-Err-clause-stopped g c =
-    let first : IsFirstLine c.telling.rest.now c.in-Some.line.now c.in-Some.behind.now = search rules in
-    with_stopped (Reports (g.T.LineTeller.skips c.args.teller.now)) (g.T.LineTeller.bad c.args.teller.now) (g.T.LineTeller.lacks c.args.teller.now)
-    c.args.first c.telling.place c.args.text.now c.telling.rest.now c.in-Some.line.now c.in-Some.behind.now
-    c.args.skipped.now.items c.telling.skipped.items c.tell_line.new.skipped.items c.in-Err.stop c.telling.invariant.reported first
-    c.in-Err.ensures.bad c.in-Err.ensures.unreported
+returns-in-Err-clause-stopped g c = grind (arith, with_stopped)
 
 pub returns-then-rest-gt-MOST_LINE-clause-bad : goal.returns-then-rest-gt-MOST_LINE-clause-bad
 returns-then-rest-gt-MOST_LINE-clause-bad g c =
@@ -39,9 +31,4 @@ returns-then-rest-gt-MOST_LINE-clause-bad g c =
     c.stop_at.result c.telling.invariant.told none long c.stop_at.ensures
 
 pub returns-then-rest-gt-MOST_LINE-clause-stopped : goal.returns-then-rest-gt-MOST_LINE-clause-stopped
-returns-then-rest-gt-MOST_LINE-clause-stopped g c =
-    let none : HasNoFeed c.telling.rest.now = search rules in
-    let long : most_line < length c.telling.rest.now = omega arith in
-    with_long (Reports (g.T.LineTeller.skips c.args.teller.now)) (g.T.LineTeller.bad c.args.teller.now) (g.T.LineTeller.lacks c.args.teller.now)
-    c.args.first c.telling.place c.args.text.now c.telling.rest.now c.args.skipped.now.items c.telling.skipped.items
-    c.stop_at.result c.telling.invariant.reported none long c.stop_at.ensures
+returns-then-rest-gt-MOST_LINE-clause-stopped g c = grind (arith, with_long)

@@ -1,4 +1,4 @@
-use Rattle.counting.proofs.Common.{◌≡◌, false, arith, mem}
+use Rattle.counting.proofs.Common.{false, arith, mem}
 use Rattle.tight_cuts.proofs.CrossingMatchings.{crosses_by_two}
 use Rattle.tight_cuts.proofs.tightness.crossing_by.Goals as goal
 
@@ -12,6 +12,4 @@ pub returns-clause-none : goal.returns-clause-none
 returns-clause-none c q cf = c.in_ok-found.ensures.none.0 q
 
 pub returns-then-not-branch-clause-none : goal.returns-then-not-branch-clause-none
-returns-then-not-branch-clause-none c q cf together =
-    let none : c.in_ok-may_hold_both.field-0 ≡ false = grind arith in
-    c.in_ok-may_hold_both.ensures.none none together
+returns-then-not-branch-clause-none c q cf together = grind arith

@@ -5,10 +5,7 @@ use Rattle.tight_cuts.specs.Common.{NoLaterWith}
 use Rattle.tight_cuts.proofs.tightness.tightness_in.Goals as goal
 
 pub returns-then-is_balanced : goal.returns-then-is_balanced
-returns-then-is_balanced c =
-    let is = c.keeps_covered.ensures.limits.multigraph.ends in
-    let m = covered_perfect c.args.c.now is c.keeps_covered.ensures.covered in
-    tight_from_cut c.args.c.now (mem c.args.shore) m.0 is m.1 (c.is_balanced.ensures c.if-is_balanced.true)
+returns-then-is_balanced c = grind (arith, covered_perfect, tight_from_cut, mem)
 
 pub returns-in-Some : goal.returns-in-Some
 returns-in-Some c = grind (arith, crossed_not_tight c.args.c.now (mem c.args.shore) c.in-Some.matching)

@@ -1,8 +1,7 @@
-use Rattle.std.proofs.Common.{◌≡◌, ◌∙◌, List, None, Option, Some, ap, arith, subst, sym, unwrap_or, ℕ, option_map}
+use Rattle.std.proofs.Common.{◌≡◌, ◌∙◌, List, None, Option, Some, ap, arith, unwrap_or, ℕ, option_map}
 use Rattle.graph_core.proofs.Common.{Graph, singles}
 use Rattle.tree_core.proofs.Common.{PlaceValue, Shape, moves_of, shape_of}
 use Rattle.tree_core.specs.declared.moves.Move.{Move}
-use Rattle.move_laws.specs.Common.{IsProperScript}
 use Rattle.uncross.specs.Common.{IsExposed, IsRaised}
 use Rattle.uncross.proofs.exposing.bring_up.Goals as goal
 
@@ -10,13 +9,7 @@ use Rattle.uncross.proofs.exposing.bring_up.Goals as goal
 raised : (g : Graph) (place : PlaceValue) (s t : Shape) (y : List ℕ) (found : Option (List Move)) (none moves : List Move) → place ≡ record { graph = g; blocks = singles g.order } → moves ≡ unwrap_or found none →
     IsExposed place.graph place.blocks s (Some y) t (option_map moves_of found) → IsRaised g (singles g.order) s y t (moves_of moves)
 raised g place s t y None none moves at is exposed = absurd exposed
-raised g place s t y (Some found) none moves at is exposed =
-    let here = subst (λ (q : PlaceValue). IsExposed q.graph q.blocks s (Some y) t (Some (moves_of found))) at exposed in
-    subst (λ (ms : List Move). IsRaised g (singles g.order) s y t (moves_of ms)) (sym is) (record {
-      root = (here.0, here.1, here.2);
-      script = subst (IsProperScript g (singles g.order) s (moves_of found)) (sym here.2) here.3;
-      few = here.4;
-    })
+raised g place s t y (Some found) none moves at is exposed = grind (arith, moves_of, singles)
 
 pub expose_at-requires-clause-derives : goal.expose_at-requires-clause-derives
 expose_at-requires-clause-derives c = grind arith
