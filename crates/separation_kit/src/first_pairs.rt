@@ -26,7 +26,7 @@ impl<'c, 'g> Model for FirstPairs<'c, 'g> {
     ghost use Rattle.std.specs.Prelude.{◌≡◌, IfSome};
     ghost use Rattle.std.specs.Option.{option_map};
     ghost use Rattle.graph_core.specs.Common.{Graph, IsBicritical, classes, cut_pair, equivalent_pair};
-    ghost use Rattle.separation_kit.specs.Pairs.{pair_of};
+    ghost use Rattle.separation_kit.specs.Pairs.{pair_value};
 
     ghost Value = { Graph };
 
