@@ -1,7 +1,7 @@
 //! The structure of a covered graph, as `analyse` reports it.
 ghost use Rattle.std.specs.Prelude.{◌≡◌, IfOk};
 ghost use Rattle.std.specs.Option.{option_map};
-ghost use Rattle.graph_core.specs.Common.{IsVerdict, pair_value};
+ghost use Rattle.graph_core.specs.Common.{IsVerdict, pair_of};
 ghost use Rattle.separation_kit.specs.Pairs.{pair_value as pair_in};
 ghost use Rattle.bench_outcomes.specs.Common.{IsStructure, TellsStructure};
 
@@ -15,7 +15,7 @@ use std::alloc::{AllocError as Memory, Global};
 
 // The two vertices of a pair.
 fn ends_of(pair: Option<Pair>) -> Option<Ends>
-    ensures { option_map pair_value result ≡ option_map pair_in pair }
+    ensures { option_map pair_of result ≡ option_map pair_in pair }
 {
     match pair {
         Some(Pair { a, b }) => Some(Ends { a, b }),

@@ -11,7 +11,7 @@ use Rattle.graph_text.specs.Common.{NamedGraph, either_version}
 use Rattle.tree_core.proofs.Common.{PlainMove, Shape}
 use Rattle.bench_tasks.specs.Common.{Command, OnGraph, OnSimpleGraph, OnTree, OnPicks, OnEars, OnMoves, OnTrees, OnNumbers, Loaded, All, Bad, Absent, and_then, ear_file, ears_given, file_read, graph6_file, graph_file, loaded, loaded_as, move_file, moves_given, on_ears, on_moves, on_picks, on_tree, on_trees, pick_file, picks_given, tree_file, tree_given, trees_given}
 use Rattle.bench_tasks.specs.Tasks as task
-use Rattle.bench_top.proofs.ReadGraphs.{GoesOn, HasGraph, HasNoMissing, read-graph}
+use Rattle.bench_top.proofs.ReadGraphs.{GoesOn, HasGraph, IsRead, read-graph}
 use Rattle.bench_top.proofs.ReadSimpleGraphs.{read-simple_graph}
 use Rattle.bench_outcomes.proofs.Settled.{KeepsGraph}
 
@@ -51,7 +51,7 @@ beside-holds : {B C : Type 0} (files : List NamedFile) (graph : List ℕ) (furth
 beside-holds files graph further make HasIts gives = grind (arith, then-holds, graph-holds, as-holds, any-holds)
 
 abbrev TreeHasGraph : NamedGraph × Shape → Type 0
-TreeHasGraph given = HasNoMissing given.0.graph
+TreeHasGraph given = IsRead given.0.graph
 
 tree_given-holds : (files : List NamedFile) (graph tree : List ℕ) → Holds TreeHasGraph (tree_given files graph tree)
 tree_given-holds files graph tree =
@@ -63,7 +63,7 @@ beside_tree-holds : {B C : Type 0} (files : List NamedFile) (graph tree : List �
 beside_tree-holds files graph tree further make HasIts gives = grind (arith, then-holds, tree_given-holds, as-holds, any-holds)
 
 -- a graph that is read has no loops
-read-keeps : (g : Graph) → HasNoMissing g → IsMultigraph g
+read-keeps : (g : Graph) → IsRead g → IsMultigraph g
 read-keeps g is = record { ends = is.ends; no_loop = is.no_loop }
 
 -- what a command works on, by the files that it reads
@@ -72,15 +72,15 @@ loaded-graph files (OnGraph verb graph) = grind (arith, as-holds HasGraph KeepsG
 loaded-graph files (OnSimpleGraph verb graph) = as-holds IsMultigraph KeepsGraph (task.OnSimpleGraph verb) (graph6_file files graph) (λ g is. is) (graph6-holds files graph)
 loaded-graph files (OnTree verb graph tree) = grind (arith, as-holds TreeHasGraph KeepsGraph (on_tree verb) (tree_given files graph tree), read-keeps, tree_given-holds files graph tree)
 loaded-graph files (OnPicks verb graph picks) =
-    as-holds (λ (given : NamedGraph × List ℕ). HasNoMissing given.0.graph) KeepsGraph (on_picks verb) (picks_given files graph picks) (λ given is. read-keeps given.0.graph is)
-    (beside-holds files graph (λ named. pick_file files picks) (λ named list. (named, list)) (λ given. HasNoMissing given.0.graph) (λ named list is. is))
+    as-holds (λ (given : NamedGraph × List ℕ). IsRead given.0.graph) KeepsGraph (on_picks verb) (picks_given files graph picks) (λ given is. read-keeps given.0.graph is)
+    (beside-holds files graph (λ named. pick_file files picks) (λ named list. (named, list)) (λ given. IsRead given.0.graph) (λ named list is. is))
 loaded-graph files (OnEars verb graph ears) =
-    as-holds (λ (given : NamedGraph × PlainEars). HasNoMissing given.0.graph) KeepsGraph (on_ears verb) (ears_given files graph ears) (λ given is. read-keeps given.0.graph is)
-    (beside-holds files graph (λ named. ear_file files ears named.graph) (λ named list. (named, list)) (λ given. HasNoMissing given.0.graph) (λ named list is. is))
+    as-holds (λ (given : NamedGraph × PlainEars). IsRead given.0.graph) KeepsGraph (on_ears verb) (ears_given files graph ears) (λ given is. read-keeps given.0.graph is)
+    (beside-holds files graph (λ named. ear_file files ears named.graph) (λ named list. (named, list)) (λ given. IsRead given.0.graph) (λ named list is. is))
 loaded-graph files (OnMoves verb graph tree moves) =
-    as-holds (λ (given : NamedGraph × (Shape × List PlainMove)). HasNoMissing given.0.graph) KeepsGraph (on_moves verb) (moves_given files graph tree moves) (λ given is. read-keeps given.0.graph is)
-    (beside_tree-holds files graph tree (λ given. move_file files moves given.0.graph.order) (λ given ms. (given.0, (given.1, ms))) (λ given. HasNoMissing given.0.graph) (λ given ms is. is))
+    as-holds (λ (given : NamedGraph × (Shape × List PlainMove)). IsRead given.0.graph) KeepsGraph (on_moves verb) (moves_given files graph tree moves) (λ given is. read-keeps given.0.graph is)
+    (beside_tree-holds files graph tree (λ given. move_file files moves given.0.graph.order) (λ given ms. (given.0, (given.1, ms))) (λ given. IsRead given.0.graph) (λ given ms is. is))
 loaded-graph files (OnTrees verb graph first second) =
-    as-holds (λ (given : NamedGraph × (Shape × Shape)). HasNoMissing given.0.graph) KeepsGraph (on_trees verb) (trees_given files graph first second) (λ given is. read-keeps given.0.graph is)
-    (beside_tree-holds files graph first (λ given. tree_file files 3 second given.0.graph.order) (λ given t. (given.0, (given.1, t))) (λ given. HasNoMissing given.0.graph) (λ given t is. is))
+    as-holds (λ (given : NamedGraph × (Shape × Shape)). IsRead given.0.graph) KeepsGraph (on_trees verb) (trees_given files graph first second) (λ given is. read-keeps given.0.graph is)
+    (beside_tree-holds files graph first (λ given. tree_file files 3 second given.0.graph.order) (λ given t. (given.0, (given.1, t))) (λ given. IsRead given.0.graph) (λ given t is. is))
 loaded-graph files (OnNumbers verb seed pieces) = tt

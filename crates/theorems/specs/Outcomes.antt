@@ -12,7 +12,7 @@ use Rattle.graph_core.specs.declared.verdict.Kind.TheVariants.{Brace, Brick, Com
 use Rattle.graph_text.specs.Common.{NamedGraph, AreNames, either_version}
 use Rattle.tree_core.specs.Common.{IsDerivation, IsTightShore, PlainLeafMap, leaf_at, map_at, leaves, PlainMove, TurnsThrough, Shape, shores}
 use Rattle.tree_text.specs.Common.{tree_format}
-use Rattle.line_text.specs.Common.{Stands, begin_with, map_lines_of as text_lines, numbers_of, words_of}
+use Rattle.line_text.specs.Common.{Stands, begin_with, lines_of as text_lines, numbers_of, words_of}
 use Rattle.move_laws.specs.Common.{image}
 use Rattle.move_text.specs.Common.{move_format}
 use Rattle.ear_core.specs.Common.{IsEarList, IsSingle, IsUnrefinable, PlainEars, TakesSingles}
