@@ -66,7 +66,7 @@ ear_check-exists g list is start = elim (covered_or_told g is) [
   | inr u ↦ (Negative, u.0, inr (inr u.1))
   | inl cov ↦ elim (ears_or_refusal g is list start) [
     | inl ears ↦ (Done, ear_judgement_text (ear_line.Accepted (length list.steps) (single_count list.steps) (double_count list.steps)), inl (record { covered = cov; is = ears; done = refl; text = refl }))
-    | inr r ↦ (Negative, ear_judgement_text (ear_line.Refused r.0 (ear.why_number r.1) (named_edge r.1)), inr (inl (record { covered = cov; step = r.0; why = r.1; refused = r.2; negative = refl; text = refl })))
+    | inr r ↦ (Negative, ear_judgement_text (ear_line.Refused r.0 (ear.ear_why_number r.1) (named_edge r.1)), inr (inl (record { covered = cov; step = r.0; why = r.1; refused = r.2; negative = refl; text = refl })))
   ]
 ]
 
