@@ -1,5 +1,5 @@
--- A node that is refused is one of its tree; and a refusal of the tree on which moves are made is one
--- of the tree and the moves.
+-- A node that is refused is one of its tree; and a refusal of the tree on which moves are made is
+-- one of the tree and the moves.
 use Rattle.std.proofs.Common.{◌≤◌, ◌<◌, inl, inr, ℕ, List, [], ◌∷◌, Option, Some, None, arith}
 use Rattle.graph_core.proofs.Common.{Graph, singles}
 use Rattle.tree_core.proofs.Common.{PlainMove, Shape, leaf, cut, kept_at, merged_at, node_count}

@@ -1,5 +1,5 @@
--- The search for a node of a tree by its number: the steps of a path as they grow, and what is found
--- below a cut is found in the tree of the cut.
+-- The search for a node of a tree by its number: the steps of a path as they grow, and what is
+-- found below a cut is found in the tree of the cut.
 use Rattle.counting.proofs.Common.{◌≡◌, ◌∙◌, ◌≤◌, ◌<◌, ℕ, zero, suc, ◌+◌, ◌||◌, ◌==◌, Bool, true, List, [], ◌∷◌, ◌++◌, Option, refl, sym, ap, subst, append_assoc, if◌then◌else◌, arith, Set, append-nil, nat_tests}
 use Rattle.tree_core.proofs.Common.{Shape, cut, node_count}
 use Rattle.tree_core.specs.declared.path.Side.{Side}

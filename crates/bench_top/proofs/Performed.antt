@@ -1,5 +1,5 @@
--- What a command makes of the shelf and the sink is `RunsTo`: it follows from what reading its files
--- made of the shelf, and from how the run ended with what was read.
+-- What a command makes of the shelf and the sink is `RunsTo`: it follows from what reading its
+-- files made of the shelf, and from how the run ended with what was read.
 use Rattle.std.proofs.Common.{◌≡◌, ◌∙◌, ◌⊎◌, ◌↔◌, ℕ, List, Bool, IsTrue, IsOk, IfOk, Option, Some, Result, sym, ap, subst, is_some, arith}
 use Rattle.std.proofs.lemmas.Option.{none-some, same_Some}
 use Rattle.outside.specs.Common.{Answer, NamedFile, ReadsInTurn, Rose}

@@ -1,5 +1,6 @@
 -- What decides the status of a run: one lemma for what the files hold, by the cases of the status.
--- A status that does not fit has an output that the files do not give, or a fault that did not come.
+-- A status that does not fit has an output that the files do not give, or a fault that did not
+-- come.
 use Rattle.std.proofs.Common.{◌≡◌, ◌⊎◌, inl, inr, ℕ, List, [], Bool, IsTrue, Option, Some, None, refl, arith}
 use Rattle.std.proofs.lemmas.Option.{none-some}
 use Rattle.outside.specs.Common.{Answer, NamedFile, Rose}

@@ -1,5 +1,5 @@
--- How a run ended: why its files were not loaded, which of them were read, what was written of a bad
--- one, and of a refusal.
+-- How a run ended: why its files were not loaded, which of them were read, what was written of a
+-- bad one, and of a refusal.
 -- Stated by: bench_top.
 use Rattle.std.specs.Prelude.{◌≡◌, ◌≤◌, ◌<◌, ℕ, List, Bool, IsTrue, length, take, Option, Some, None, Result, Ok, Err}
 use Rattle.outside.specs.Common.{Answer, ReadsInTurn, appended}

@@ -32,7 +32,8 @@ pub record Runs {S K : Type 0} (holds : S → Option (List NamedFile)) (is_stead
   pub asks : ReadsFirst reads (names_in row) first last
   -- they are those of all names if good files were reported on
   pub asks_all : IsSettled ended → ReadsInTurn reads (names_in row) first last
-  -- if the files are known, they are those of the names up to the first file that is not held or bad
+  -- if the files are known, they are those of the names up to the first file that is not held or
+  -- bad
   pub asks_until : (files : List NamedFile) (command : Command) → holds first ≡ Some files → row ≡ Some command
       → HasRead (is_steady first) ended → ReadsInTurn reads (names_until (loaded files command) (file_names command)) first last
   -- they change no file, and a steady shelf stays so

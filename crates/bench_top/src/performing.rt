@@ -56,8 +56,8 @@ fn report_on(alloc: Global, gathered: Result<Task, Stop>) -> Result<Report, Stat
     }
 }
 
-/// Does the command: reads its files, makes the whole report in memory, and writes it. What it makes
-/// of the shelf and the sink is `RunsTo`, at the row of the command.
+/// Does the command: reads its files, makes the whole report in memory, and writes it. What it
+/// makes of the shelf and the sink is `RunsTo`, at the row of the command.
 pub fn perform<S: Shelf, K: Sink>(
     alloc: Global,
     command: Command<'_>,

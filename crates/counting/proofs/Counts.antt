@@ -22,7 +22,7 @@ count_le zero p = omega arith
 count_le (suc n) p = omega (arith, count_le n p, bit_le_one (p (suc n)))
 
 pub count_more : (n : ℕ) (p q : ℕ → Bool) → ((v : ℕ) → p v ≡ true → q v ≡ true) → (a : ℕ) → Within n a → p a ≡ false → q a ≡ true → count n p + 1 ≤ count n q
-count_more n p q h a w pa qa = omega (arith, component_count, one)
+count_more n p q h a w pa qa = omega (arith, counted_apart, one)
   where
     bits : (s t : Bool) → (s ≡ true → t ≡ true) → bit t ≡ bit s + bit (t && not s)
     bits true true f = refl
@@ -30,8 +30,8 @@ count_more n p q h a w pa qa = omega (arith, component_count, one)
     bits false true f = refl
     bits false false f = refl
 
-    component_count : count n q ≡ count n p + count n (λ v. q v && not (p v))
-    component_count = total_congr n _ _ (λ v u. bits (p v) (q v) (h v)) ∙ total_add n (λ v. bit (p v)) (λ v. bit (q v && not (p v)))
+    counted_apart : count n q ≡ count n p + count n (λ v. q v && not (p v))
+    counted_apart = total_congr n _ _ (λ v u. bits (p v) (q v) (h v)) ∙ total_add n (λ v. bit (p v)) (λ v. bit (q v && not (p v)))
 
     one : 1 ≤ count n (λ v. q v && not (p v))
     one = let b : bit (q a && not (p a)) ≡ 1 = rw (pa, qa) refl in omega (arith, at_le_total n (λ v. bit (q v && not (p v))) a w)

@@ -1,7 +1,7 @@
 //! Minimum cuts and flows of a network with undirected arcs.
 //!
 //! `min_cut` returns the least minimum cut between a source and a sink, up to a bound, or a flow
-//! above the bound. The definitions: the value of a set of nodes (`value_of`), a set with the
+//! above the bound. The definitions: the value of a set of nodes (`cut_value`), a set with the
 //! source but not the sink (`Separates`), the least minimum cut (`IsLeastCut`), and a flow
 //! (`IsFlow`). A cut is returned if and only if some set has a value within the bound (clause
 //! `exactly`), and it lies inside every other set of its value. `flow_law` is the theorem of Ford

@@ -17,7 +17,7 @@ use vset_core::MOST_VERTICES;
 /// whose sum is below 2^63. Parallel arcs and capacities of 0 are allowed. Contracts see it as
 /// its number of nodes and its list of arcs, in the order in which they were added; the value of
 /// a set of nodes is the sum of the capacities of the arcs with exactly one node in it
-/// (`value_of`).
+/// (`cut_value`).
 #[derive(Drop)]
 pub struct Net {
     nodes: u32,

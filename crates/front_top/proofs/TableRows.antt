@@ -1,5 +1,5 @@
--- The rows of the table are the words that some command matches: by the number of words. A word that
--- is a number has nine digits at most, so the range of a seed refuses none.
+-- The rows of the table are the words that some command matches: by the number of words. A word
+-- that is a number has nine digits at most, so the range of a seed refuses none.
 use Rattle.std.proofs.Common.{◌≡◌, ◌≤◌, ◌<◌, ◌^◌, ◌&&◌, ◌||◌, ℕ, List, [], ◌∷◌, length, Bool, true, false, nat_le, refl, rules, ap, sym, subst, arith, codes, if◌then◌else◌, Option, Some, None, is_some, unwrap_or, option_map, bytes_eq}
 use Rattle.std.specs.Char.{is_ascii_digit}
 use Rattle.std.specs.List.{list_all}

@@ -12,8 +12,8 @@ use Rattle.front_words.specs.declared.programs.Program.TheVariants.{Mcg}
 use Rattle.front_top.specs.declared.ending.Message.{Message}
 use Rattle.front_top.specs.declared.ending.Message.TheVariants as message
 
--- what is to be said of a run of this row is what its ending means: the status, what stopped the run,
--- which is what the files hold and the reads say, and why its input was refused
+-- what is to be said of a run of this row is what its ending means: the status, what stopped the
+-- run, which is what the files hold and the reads say, and why its input was refused
 pub record Speaks {S K : Type 0} (holds : S → Option (List NamedFile)) (is_steady : S → Bool) (faults : S → ℕ) (reads : S → List ℕ → Answer → S → Type 0)
     (written : K → Option (List ℕ)) (writes : K → List ℕ → ℕ → K → Type 0) (sink_faults : K → ℕ) (words : List (List ℕ)) (ended : Status) (said : Message)
     (first last : S) (before now : K) : Type 0 where
@@ -22,9 +22,9 @@ pub record Speaks {S K : Type 0} (holds : S → Option (List NamedFile)) (is_ste
   pub of_status : ending.status ≡ ended
   pub ran : RunsTo holds is_steady faults reads written writes sink_faults (command_of words) ended ending.stop ending.refusal first last before now
 
--- a run of the front on these words, quiet or not, ended with this status, and with this to be said.
--- It led from the first shelf to the last, and from the sink before to the sink now, whose reader is
--- gone or not
+-- a run of the front on these words, quiet or not, ended with this status, and with this to be
+-- said. It led from the first shelf to the last, and from the sink before to the sink now, whose
+-- reader is gone or not
 pub record Fronts {S K : Type 0} (holds : S → Option (List NamedFile)) (is_steady : S → Bool) (faults : S → ℕ) (reads : S → List ℕ → Answer → S → Type 0)
     (written : K → Option (List ℕ)) (writes : K → List ℕ → ℕ → K → Type 0) (sink_faults : K → ℕ) (words : List (List ℕ)) (is_quiet is_abandoned : Bool)
     (ended : Status) (said : Message) (first last : S) (before now : K) : Type 0 where

@@ -17,7 +17,8 @@ sizes_after None (Err fault) = None
 abbrev pub sizes_kept : (kept : Option (ℕ × ℕ)) → Result (Vec ℕ) ShelfFault → Option (ℕ × ℕ)
 sizes_kept kept answer = sizes_after kept (answer_seen answer)
 
--- a read of that name leads from the first shelf to the second, and from these kept numbers to those
+-- a read of that name leads from the first shelf to the second, and from these kept numbers to
+-- those
 pub record SizesRead {S : Type 0} (reads : S → List ℕ → Answer → S → Type 0) (before : S) (name : List ℕ) (answer : Answer) (now : S) (kept_before kept : Option (ℕ × ℕ)) : Type 0 where
   pub read : reads before name answer now
   pub kept_is : kept ≡ sizes_after kept_before answer

@@ -22,9 +22,9 @@ use Rattle.front_top.specs.declared.ending.Message.TheVariants as message
 abbrev pub program : List ℕ
 program = codes "mcg"
 
--- what is known of the faults of a run: the bytes of the file that was read last, the numbers of the
--- vertices and of the edges of the graph, why its last read failed, and that nobody reads the output
--- any more
+-- what is known of the faults of a run: the bytes of the file that was read last, the numbers of
+-- the vertices and of the edges of the graph, why its last read failed, and that nobody reads the
+-- output any more
 pub record Known : Type 0 where
   pub kept : Option (List ℕ)
   pub sizes : Option (ℕ × ℕ)

@@ -19,8 +19,8 @@ pub enum Message {
     Ending { ending: RunEnding },
 }
 
-/// How a run ended, with what is to be said of it. It holds the shelf that was read, for the text of
-/// a line; so nothing is read any more, and nothing was said yet.
+/// How a run ended, with what is to be said of it. It holds the shelf that was read, for the text
+/// of a line; so nothing is read any more, and nothing was said yet.
 #[derive(Drop)]
 pub struct FrontEnding<'a, S: Sizing + Drop> {
     /// The status.

@@ -35,9 +35,9 @@ fn message_on_run(ending: RunEnding, is_quiet: bool) -> Message
     }
 }
 
-/// Does what the words ask for, as `run` of `bench_top`, and returns how that ended, with what is to
-/// be said of it, unless it is to be quiet. Words that ask for the usage or the version are answered
-/// on the sink, and nothing is read.
+/// Does what the words ask for, as `run` of `bench_top`, and returns how that ended, with what is
+/// to be said of it, unless it is to be quiet. Words that ask for the usage or the version are
+/// answered on the sink, and nothing is read.
 ///
 /// Nothing is said yet: `FrontEnding::say` does that, which takes the sink for it. The shelf keeps
 /// the file that it read last, for the text of a line, and the numbers of the graph, for the header

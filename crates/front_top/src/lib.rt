@@ -6,7 +6,7 @@
 //! after it or one of the first three before it, are answered on standard output, and nothing is
 //! read. For all other words standard output and status are those of `run`. Main definitions, in
 //! specs/: `answer_of` of `front_words` (what such words are answered), `files_of` of `Files` (what
-//! each named file is read as), and `words_of` of `Words`, what is said of each ending, a function
+//! each named file is read as), and `run_words` of `Words`, what is said of each ending, a function
 //! of the command line, the ending, the bytes of the file that was read last, the numbers of the
 //! graph (`Sizing`), and what the shelf and the sink know of their faults. Main promises: the
 //! clauses of `run_front` and of `say`.

@@ -39,8 +39,8 @@ pub trait Sizing: Keeping {
     ghost sizes_are: { AreKept Self.reads sizes };
 }
 
-/// A shelf that keeps these numbers, and otherwise behaves like the shelf inside. Takes no memory of
-/// its own.
+/// A shelf that keeps these numbers, and otherwise behaves like the shelf inside. Takes no memory
+/// of its own.
 #[derive(Drop)]
 pub struct SizingShelf<S: Shelf + Drop> {
     /// The shelf that is read.

@@ -68,7 +68,8 @@ module _ {K F : Type 0} (written : K → Option (List ℕ)) (writes : K → List
   says_passed text first second (Err f) e before now parts handed said =
       says_break text first second f before now parts (subst (λ (x : F). Says written writes faults first (Err x) before now) (sym handed) said)
 
-  -- a text of three parts, of which the first was said and the second was not said whole; a `?` hands the error on
+  -- a text of three parts, of which the first was said and the second was not said whole; a `?`
+  -- hands the error on
   pub says_passed_second : (text first second third : List ℕ) (result : Result (Unit {0}) F) (e : F) (before mid now : K) → text ≡ first ++ (second ++ third) →
       IsErrAnd result (λ f. f ≡ e) → Says {F = F} written writes faults first (Ok tt) before mid → Says written writes faults second (Err e) mid now →
       Says written writes faults text result before now

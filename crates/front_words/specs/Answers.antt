@@ -41,8 +41,8 @@ pub record Answers {K E : Type 0} (written : K → Option (List ℕ)) (writes : 
   pub writes_until : ended ≡ unwritten → WritesUntilFault writes text before now
   pub failed : ended ≡ unwritten → Rose (faults before) (faults now)
 
--- a run whose words are answered at once with this text, quiet or not, ended so, and with this to be
--- said. It led from the first input to the last, and from the sink before to the sink now, whose
+-- a run whose words are answered at once with this text, quiet or not, ended so, and with this to
+-- be said. It led from the first input to the last, and from the sink before to the sink now, whose
 -- reader is gone or not
 pub record AnswersAtOnce {I K E M : Type 0} (written : K → Option (List ℕ)) (writes : K → List ℕ → ℕ → K → Type 0) (faults : K → ℕ) (done unwritten : E) (silence loss : M)
     (text : List ℕ) (is_quiet is_abandoned : Bool) (ended : E) (said : M) (first last : I) (before now : K) : Type 0 where

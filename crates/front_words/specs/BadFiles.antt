@@ -5,9 +5,10 @@ use Rattle.line_text.specs.declared.faults.FaultKind.{FaultKind}
 use Rattle.refusals.specs.declared.file_kind.FileKind.{FileKind}
 use Rattle.front_words.specs.declared.messages.BadFile.{BadFile}
 
--- its name, what it is read as, the line of its first fault, which is 0 where it is too long, and the
--- kind of this fault; and, if they are known, the bytes of the file or some with which it begins, the
--- numbers of the vertices and of the edges of the graph that it is for, and the text of that line
+-- its name, what it is read as, the line of its first fault, which is 0 where it is too long, and
+-- the kind of this fault; and, if they are known, the bytes of the file or some with which it
+-- begins, the numbers of the vertices and of the edges of the graph that it is for, and the text of
+-- that line
 pub record BadFileSeen : Type 0 where
   pub name : List ℕ
   pub file_kind : FileKind

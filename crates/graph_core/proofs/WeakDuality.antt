@@ -54,9 +54,9 @@ loose_in g s m is mm u w o odd = elim (cases_Bool (some g.order (λ v. joined g 
     tight : some g.order (λ v. joined g s u v && loose g s m v) ≡ false → (v : ℕ) → Within g.order v → k v ≡ true → loose g s m v ≡ false
     tight f v wv kv = and_fails_second (k v) (loose g s m v) kv (some_none g.order (λ v. joined g s u v && loose g s m v) f v wv)
 
-    component_count : some g.order (λ v. joined g s u v && loose g s m v) ≡ false → (v : ℕ) → Within g.order v → k v ≡ true →
+    matched_inside : some g.order (λ v. joined g s u v && loose g s m v) ≡ false → (v : ℕ) → Within g.order v → k v ≡ true →
         (degree g m v ≡ 1) × (some (size g) (λ e. (m e && s (second_end g e)) && (first_end g e == v)) ≡ false) × (some (size g) (λ e. (m e && s (first_end g e)) && (second_end g e == v)) ≡ false)
-    component_count f v wv kv =
+    matched_inside f v wv kv =
         let a = tight f v wv kv in
         let b = joined_outside g s is u v o kv in
         let c = three (s v) (degree g m v == 0) (some (size g) (λ e. (m e && s (second_end g e)) && (first_end g e == v))) (some (size g) (λ e. (m e && s (first_end g e)) && (second_end g e == v))) b a in
@@ -74,7 +74,7 @@ loose_in g s m is mm u w o odd = elim (cases_Bool (some g.order (λ v. joined g 
         ones v wv = go (k v) refl
           where
             go : (b : Bool) → k v ≡ b → bit b ≡ bit b * degree g m v
-            go true p = omega (arith, (component_count f v wv p).0)
+            go true p = omega (arith, (matched_inside f v wv p).0)
             go false p = omega arith
 
         other : (a b : Bool) (v : ℕ) → a ≡ true → ((a && b) && (v == v)) ≡ false → b ≡ false
@@ -95,11 +95,11 @@ loose_in g s m is mm u w o odd = elim (cases_Bool (some g.order (λ v. joined g 
             go true true true p q r = refl
             go true false false p q r = refl
             go true true false p q r =
-                let h = some_none (size g) _ (component_count f (first_end g e) (is e we).0 q).1 e we in
+                let h = some_none (size g) _ (matched_inside f (first_end g e) (is e we).0 q).1 e we in
                 let sb : s (second_end g e) ≡ false = other (m e) (s (second_end g e)) (first_end g e) p h in
                 absurd (both_ways (k (second_end g e)) r (stays e (first_end g e) (second_end g e) we p (has_ends-own g e) q sb))
             go true false true p q r =
-                let h = some_none (size g) _ (component_count f (second_end g e) (is e we).1 r).2 e we in
+                let h = some_none (size g) _ (matched_inside f (second_end g e) (is e we).1 r).2 e we in
                 let sb : s (first_end g e) ≡ false = other (m e) (s (first_end g e)) (second_end g e) p h in
                 absurd (both_ways (k (first_end g e)) q (stays e (second_end g e) (first_end g e) we p (has_ends-back g (first_end g e) (second_end g e) e (has_ends-own g e)) r sb))
 

@@ -3,8 +3,8 @@
 //! Lines end at line feeds, words at blanks. A line without words, or whose first word is `c`, is
 //! skipped (`lines_of`, `words_of`, `significant_lines_of`). A format is a table of `Rules`: for
 //! the header, for a further line and for the end. By these rules a text `Stands` for one value or
-//! has one `FirstFault`, and not both (`laws::exactly_one_law`). `read` returns the value or the error,
-//! unless memory runs out.
+//! has one `FirstFault`, and not both (`laws::exactly_one_law`). `read` returns the value or the
+//! error, unless memory runs out.
 //!
 //! To write a format (the picks in `tests.rt` are an example): (1) its rules in `specs/`, one
 //! `checked` table a rule; (2) an `impl LineFormat` whose methods make the tests in the order of

@@ -24,11 +24,11 @@ module _ (g : Graph) (is : IsGraph g) (r m n : Set) (mm : IsMaximum g r m) (nn :
   find_x : (u v t : ℕ) → Within g.order u → Within g.order v → Within g.order t → u ≢ v → a_set u ≡ true → a_set v ≡ true → b_set u ≡ false → b_set v ≡ false → (x : ℕ) × Within g.order x × (b_set x ≡ true) × (a_set x ≡ false) × (t ≢ x)
   find_x u v t wu wv wt d au av bu bv =
       let x = some_term g.order (λ x. bit ((b_set x && not (a_set x)) && not (t == x))) (omega (arith, two, split_a, split_b, same_missed, drop_t, one_t)) in
-      let p = component_count (b_set x.0) (a_set x.0) (t == x.0) (bit_true ((b_set x.0 && not (a_set x.0)) && not (t == x.0)) x.2) in
+      let p = one_of_three (b_set x.0) (a_set x.0) (t == x.0) (bit_true ((b_set x.0 && not (a_set x.0)) && not (t == x.0)) x.2) in
       (x.0, x.1, p.0, p.1, λ e. both_ways (t == x.0) p.2 (eq-eqb t x.0 e))
     where
-      component_count : (a b c : Bool) → ((a && not b) && not c) ≡ true → (a ≡ true) × (b ≡ false) × (c ≡ false)
-      component_count a b c h = grind arith
+      one_of_three : (a b c : Bool) → ((a && not b) && not c) ≡ true → (a ≡ true) × (b ≡ false) × (c ≡ false)
+      one_of_three a b c h = grind arith
 
       p : Set
       p v = a_set v && not (b_set v)

@@ -94,6 +94,7 @@ module _ (g : Graph) (x : Set) (m : MatchingValue) (mate : List ℕ) (of : IsOf 
         (t.1.edge, is.0.edge, held, elim t.5 [ inl s ↦ inl (sym is.0.first ∙ s.0, sym is.0.second ∙ s.1) | inr s ↦ inr (sym is.0.first ∙ s.0, sym is.0.second ∙ s.1) ]);
   }
 
--- the mates of all edges of a matching of g - r, read with no vertex removed, are its mates in g - r
+-- the mates of all edges of a matching of g - r, read with no vertex removed, are its mates in g -
+-- r
 pub mates_beside : (g : Graph) (r x m : Set) (mate : ℕ → ℕ) → IsMatching g r m → ((v : ℕ) → x v ≡ false) → HasMates g x (left_over g x m) mate → HasMates g r m mate
 mates_beside g r x m mate mm nothing has = grind (arith, fun_ext, first_end, second_end)

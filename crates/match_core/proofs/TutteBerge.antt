@@ -36,13 +36,13 @@ module _ (g : Graph) (is : IsGraph g) (r m : Set) (mm : IsMaximum g r m)
 
   -- an odd component has one missed vertex, an even one none
   missed_in : (u : ℕ) → Within g.order u → count g.order (λ v. joined g r u v && (degree g m v == 0)) ≡ bit (is_odd (count g.order (joined g r u)))
-  missed_in u w = parity (count g.order (λ v. joined g r u v && (degree g m v == 0))) (count (size g) (λ e. m e && inside g (joined g r u) e)) (count g.order (joined g r u)) at_most component_count
+  missed_in u w = parity (count g.order (λ v. joined g r u v && (degree g m v == 0))) (count (size g) (λ e. m e && inside g (joined g r u) e)) (count g.order (joined g r u)) at_most missed_and_pairs
     where
       at_most : count g.order (λ v. joined g r u v && (degree g m v == 0)) ≤ 1
       at_most = grind (arith, count_le_one g.order, and_parts, joined_on g r, joined_back g r u, joined_walk g r u, eqb-true)
 
-      component_count : count g.order (joined g r u) ≡ count g.order (λ v. joined g r u v && (degree g m v == 0)) + (count (size g) (λ e. m e && inside g (joined g r u) e) + count (size g) (λ e. m e && inside g (joined g r u) e))
-      component_count =
+      missed_and_pairs : count g.order (joined g r u) ≡ count g.order (λ v. joined g r u v && (degree g m v == 0)) + (count (size g) (λ e. m e && inside g (joined g r u) e) + count (size g) (λ e. m e && inside g (joined g r u) e))
+      missed_and_pairs =
           let a = total_congr g.order (λ v. bit (joined g r u v)) (λ v. bit (joined g r u v && (degree g m v == 0)) + bit (joined g r u v) * degree g m v) (λ v wv. grind arith) in
           let b = total_add g.order (λ v. bit (joined g r u v && (degree g m v == 0))) (λ v. bit (joined g r u v) * degree g m v) in
           let c = degrees g is m (joined g r u) in

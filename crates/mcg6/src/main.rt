@@ -3,8 +3,8 @@
 //!
 //! The list is standard input, or the file that the last word names. It is read by `InSource` and
 //! standard output is written by `OutSink`; the program never writes to standard error. If the
-//! words cannot be read, nothing is read or written: the exit status is 6 for lack of memory, and 7,
-//! which no status has, for a word that is not UTF-8.
+//! words cannot be read, nothing is read or written: the exit status is 6 for lack of memory, and
+//! 7, which no status has, for a word that is not UTF-8.
 #![tactic(auto)]
 
 use arguments::read_arguments;

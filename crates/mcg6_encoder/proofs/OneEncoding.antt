@@ -1,5 +1,5 @@
--- A graph file has one graph6 text, or one first error, and not both: its text stands for one graph or
--- breaks the format at one line.
+-- A graph file has one graph6 text, or one first error, and not both: its text stands for one graph
+-- or breaks the format at one line.
 use Rattle.std.proofs.Common.{◌≡◌, ◌∙◌, inl, inr, ℕ, ◌≤◌, List, [], ◌∷◌, ◌++◌, length, ap, sym, arith}
 use Rattle.outside.specs.Common.{most_bytes}
 use Rattle.line_text.proofs.ExactlyOne.{exactly_one, StandsAlone-stands}

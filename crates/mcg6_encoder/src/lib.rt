@@ -6,10 +6,11 @@
 //!
 //! Main definitions, in specs/: `IsBeneath` of `SimpleGraphs`; `IsEncoded` and `IsBadFile` of
 //! `Files`, exactly one of which holds for a file within the limit of bytes; `Encodes`, what is
-//! written up to each `EncodeEnding`; `ReadsFirst` of `Reads`, the reads and the writes in their
-//! order. Main promises: the output is what the file gives, in whatever pieces it came; nothing is
-//! written before the file was read to its end, nor for a bad file; an error of the source or the
-//! sink comes only if its count rose; a file has one text or one first error (`one_encoding_law`).
+//! written up to each `EncodeEnding`; `ReadsThenWrites` of `Reads`, the reads and the writes in
+//! their order. Main promises: the output is what the file gives, in whatever pieces it came;
+//! nothing is written before the file was read to its end, nor for a bad file; an error of the
+//! source or the sink comes only if its count rose; a file has one text or one first error
+//! (`one_encoding_law`).
 //!
 //! Depends on `graph_text` and `graph6_text` for the texts, on `graph_core` for graphs, on
 //! `mcg6_reader` for the report on a bad file, and on `outside` for the source and the sink.

@@ -1,7 +1,7 @@
 //! The program `mcg6_front`, which users call as `mcg6`: the words after its name are a command of
-//! `mcg6_front_top::run_list_front`, which answers a list of graphs line by line on standard output.
-//! It returns what is to be said for a person, which then goes to standard error, and the status,
-//! which becomes the exit status.
+//! `mcg6_front_top::run_list_front`, which answers a list of graphs line by line on standard
+//! output. It returns what is to be said for a person, which then goes to standard error, and the
+//! status, which becomes the exit status.
 //!
 //! The list is standard input, or the file that the last word names. It is read by `InSource`,
 //! standard output is written by `OutSink` and standard error by `LineSink`. `MCG_QUIET=1` in the

@@ -1,5 +1,6 @@
--- The rows of the table of `mcg6` are the words that some command matches. What may follow a query is
--- the same on both sides; the rest are laws of truth values, with the tests of the words for variables.
+-- The rows of the table of `mcg6` are the words that some command matches. What may follow a query
+-- is the same on both sides; the rest are laws of truth values, with the tests of the words for
+-- variables.
 use Rattle.std.proofs.Common.{◌≡◌, ◌∙◌, ◌&&◌, ◌||◌, ℕ, List, [], ◌∷◌, drop, Bool, true, false, nat_eq, codes, refl, ap, sym, subst, if◌then◌else◌, Option, Some, None, is_some, bytes_eq}
 use Rattle.std.specs.List.{list_any, starts_with}
 use Rattle.std.specs.Option.{option_map, option_or}

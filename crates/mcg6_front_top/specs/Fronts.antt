@@ -20,9 +20,9 @@ pub record Speaks {S K : Type 0} (left : S → Option (List ℕ)) (faults : S �
   pub of_status : ended ≡ status_in ending
   pub ran : ListRunsTo left faults reads written writes sink_faults words ending first last before now
 
--- a run of the front on these words, quiet or not, ended with this status, and with this to be said.
--- It led from the first source to the last, and from the sink before to the sink now, whose reader
--- is gone or not
+-- a run of the front on these words, quiet or not, ended with this status, and with this to be
+-- said. It led from the first source to the last, and from the sink before to the sink now, whose
+-- reader is gone or not
 pub record ListFronts {S K : Type 0} (left : S → Option (List ℕ)) (faults : S → ℕ) (reads : S → Option (List ℕ) → S → Type 0)
     (written : K → Option (List ℕ)) (writes : K → List ℕ → ℕ → K → Type 0) (sink_faults : K → ℕ) (words : List (List ℕ)) (is_quiet is_abandoned : Bool)
     (ended : ListStatus) (said : Message) (first last : S) (before now : K) : Type 0 where

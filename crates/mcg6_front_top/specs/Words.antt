@@ -34,8 +34,8 @@ unwritten_words is_abandoned = if is_abandoned then [] else lost_words
 abbrev pub memory_words : List ℕ
 memory_words = codes "mcg6: memory ran out; what was written is of the first lines alone\n"
 
--- what is said of a list that ended so, in the file of that name, if it has one; nothing if each line
--- was answered
+-- what is said of a list that ended so, in the file of that name, if it has one; nothing if each
+-- line was answered
 abbrev pub list_words : (name : Option (List ℕ)) → Ending → Clues → List ℕ
 list_words name Done clues = []
 list_words name (Bad found) clues = bad_line_text program found.number found.kind found.text.items
@@ -88,7 +88,8 @@ abbrev pub run_words : (words : List (List ℕ)) → Option RunEnd → Clues →
 run_words words None clues = unmatched_text Mcg6 words
 run_words words (Some end) clues = ending_words end clues
 
--- what is said of a run of these words: of an answer that could not be written whole, or of this end
+-- what is said of a run of these words: of an answer that could not be written whole, or of this
+-- end
 abbrev pub message_words : (words : List (List ℕ)) → Message → Clues → List ℕ
 message_words words message.Nothing clues = []
 message_words words message.Lost clues = lost_words

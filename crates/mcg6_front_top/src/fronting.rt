@@ -37,13 +37,13 @@ fn message_on_run<'a>(end: Option<RunEnd<'a>>, is_quiet: bool) -> Message<'a>
     }
 }
 
-/// Does what the command line asks for, as `run` of `mcg6_top`, and returns how that ended, with what
-/// is to be said of it, unless it is to be quiet. Words that ask for the usage or the version are
-/// answered on the sink, and nothing is read.
+/// Does what the command line asks for, as `run` of `mcg6_top`, and returns how that ended, with
+/// what is to be said of it, unless it is to be quiet. Words that ask for the usage or the version
+/// are answered on the sink, and nothing is read.
 ///
-/// Nothing is said yet: `ListFrontEnding::say` does that, which takes the sink for it. The reason is
-/// why the file cannot be read, where the caller knows that. What the call makes of source and sink
-/// is `ListFronts`, a record with a line on each of its fields.
+/// Nothing is said yet: `ListFrontEnding::say` does that, which takes the sink for it. The reason
+/// is why the file cannot be read, where the caller knows that. What the call makes of source and
+/// sink is `ListFronts`, a record with a line on each of its fields.
 pub fn run_list_front<'a, 'b, S: Source, K: Outlet>(
     alloc: Global,
     line: &'b CommandLine<'a>,

@@ -5,8 +5,8 @@
 //! `--help`, `-h`, `help` and `--version`, alone, and what asks for the page of a command, `--help`
 //! after it or one of the first three before it, are answered on standard output, and nothing is
 //! read. For all other words standard output, the source and the status are those of `run`: so
-//! standard output has data alone. Main definitions, in specs/: `answer_of` of `front_words`
-//! (what such words are answered), `ListRuns` of `mcg6_top` (the clauses of `run`), and `words_of` of
+//! standard output has data alone. Main definitions, in specs/: `answer_of` of `front_words` (what
+//! such words are answered), `ListRuns` of `mcg6_top` (the clauses of `run`), and `run_words` of
 //! `Words`, what is said of each ending: of a bad line its number, its fault and its text, of a
 //! graph file also its name, and nothing where all was told. Main promises: the clauses of
 //! `run_list_front` and of `say`.

@@ -17,8 +17,8 @@ fn say_one<E: Sink>(errors: &mut E, found: &BadLine) -> Said
     say_bad_line(errors, PROGRAM, found.number, found.kind, &found.text)
 }
 
-/// Says of each bad line that was skipped its number, what is wrong with it, and the line, in order,
-/// up to the first that cannot be said whole. Takes no memory.
+/// Says of each bad line that was skipped its number, what is wrong with it, and the line, in
+/// order, up to the first that cannot be said whole. Takes no memory.
 pub fn say_skipped<E: Sink>(errors: &mut E, skipped: &[BadLine]) -> Said
     ensures { Says E.written E.writes E.faults (skipped_words skipped.now) result errors.old
         errors.new }

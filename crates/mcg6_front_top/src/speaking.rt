@@ -119,7 +119,8 @@ fn say_nothing_written<E: Sink>(errors: &mut E) -> Said
     say_bytes(errors, b"mcg6: memory ran out; nothing was written\n")
 }
 
-// Says how a list ended, with the name of its file, if it has one; nothing where each line was told.
+// Says how a list ended, with the name of its file, if it has one; nothing where each line was
+// told.
 fn say_list_ending<E: Sink>(
     errors: &mut E,
     name: Option<&str>,

@@ -12,7 +12,8 @@ pub lines_next : (front : List ℕ) (g : Graph) (ps : List (List (List ℕ))) (k
     leaf_lines front g (drop i ps) (drop i kinds) ≡ leaf_line front g (get_or ps i []) (get_or kinds i Brick) ++ leaf_lines front g (drop (i + 1) ps) (drop (i + 1) kinds)
 lines_next front g ps kinds i listed told = ap₂ (leaf_lines front g) (drop_more ps i [] listed) (drop_more kinds i Brick told)
 
--- what is written, with the line of the leaf at the next place, and the lines of the leaves after it
+-- what is written, with the line of the leaf at the next place, and the lines of the leaves after
+-- it
 pub lines_further : (front : List ℕ) (g : Graph) (ps : List (List (List ℕ))) (places : List PlaceValue) (kinds : List LeafKind) (i : ℕ) (place : PlaceValue) (kind : LeafKind) (now next : List ℕ) →
     i < length places → place ≡ get_or places i place → places ≡ map (place_of g) ps → i < length kinds → kind ≡ get_or kinds i Brick → next ≡ now ++ leaf_line front place.graph place.blocks kind →
     now ++ leaf_lines front g (drop i ps) (drop i kinds) ≡ leaf_lines front g ps kinds → next ++ leaf_lines front g (drop (i + 1) ps) (drop (i + 1) kinds) ≡ leaf_lines front g ps kinds

@@ -23,9 +23,9 @@ GivesOutput tells bad lacks place lines ReadFault output = BeginningTold tells p
 GivesOutput tells bad lacks place lines WriteFault output = CutShort tells place lines output
 GivesOutput tells bad lacks place lines Memory output = BeginningTold tells place lines output
 
--- the reports on the skipped lines of a list up to an ending, where the first line is at that place:
--- on all of them, or on those before the bad line at which it ended, and else on those of an initial
--- segment
+-- the reports on the skipped lines of a list up to an ending, where the first line is at that
+-- place: on all of them, or on those before the bad line at which it ended, and else on those of an
+-- initial segment
 abbrev pub Reported :
     (LinePlace → List ℕ → List BadLine → Type 0) → (LinePlace → List ℕ → FaultKind → Type 0) → (ℕ → Option FaultKind) → LinePlace →
     List (List ℕ) → Ending → List BadLine → Type 0

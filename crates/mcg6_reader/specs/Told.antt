@@ -49,8 +49,8 @@ pub record IsReportOn (number : ℕ) (kind : FaultKind) (text : List ℕ) (found
   pub of_kind : found.kind ≡ kind
   pub kept : found.text.items ≡ text
 
--- the reports on a line of a list that goes on after it: one if the line is skipped, with its number,
--- the kind of its first error, and its text; and else none
+-- the reports on a line of a list that goes on after it: one if the line is skipped, with its
+-- number, the kind of its first error, and its text; and else none
 abbrev pub Reports : (LinePlace → List ℕ → Option FaultKind → Type 0) → LinePlace → List ℕ → List BadLine → Type 0
 Reports skips place line [] = skips place line None
 Reports skips place line (found ∷ []) = skips place line (Some found.kind) × IsReportOn place.number found.kind line found

@@ -145,9 +145,9 @@ fn tell_through<T: LineTeller, S: Source, K: Sink>(
 /// ending describes it. For each line that is skipped a report is added. A line that is too long
 /// ends it as soon as more of it was read than a line may have.
 ///
-/// Takes memory for a piece, a line, the outputs of the lines of a piece, and the reports on skipped
-/// lines. If memory runs out, or there are more lines or reads than a u64 counts, it ends with
-/// `Memory`.
+/// Takes memory for a piece, a line, the outputs of the lines of a piece, and the reports on
+/// skipped lines. If memory runs out, or there are more lines or reads than a u64 counts, it ends
+/// with `Memory`.
 #[tactic(auto, using(crate::proofs::Readings::untouched, crate::proofs::LeftBytes::told_list, crate::proofs::LeftBytes::reported_list, crate::proofs::Stages::unread))]
 pub fn tell_all<T: LineTeller, S: Source, K: Sink>(
     alloc: Global,

@@ -50,8 +50,8 @@ pub fn tell_line<T: LineTeller>(
 }
 
 // Processes the complete lines of a text, the first of which is at that place, and rejects what is
-// left of the text after its last line feed if that is too long for a line; returns the place of the
-// next line, and what is left.
+// left of the text after its last line feed if that is too long for a line; returns the place of
+// the next line, and what is left.
 #[tactic(auto, using(crate::proofs::Skips::with_more_memory))]
 pub fn tell_lines<'a, T: LineTeller>(
     alloc: Global,

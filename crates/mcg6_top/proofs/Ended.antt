@@ -20,8 +20,8 @@ use Rattle.mcg6_encoder.specs.declared.ending.EncodeEnding.TheVariants as encodi
 use Rattle.mcg6_encoder.specs.Files.{Encodes}
 use Rattle.mcg6_encoder.specs.Reads.{EncodesFile}
 
--- what a list gives up to an ending, by its status: without a report on a skipped line all lines are
--- answered
+-- what a list gives up to an ending, by its status: without a report on a skipped line all lines
+-- are answered
 pub outcome_of_ending :
     (query : Query) (at_bad : AtBadLine) (bytes : List ℕ) (ending : Ending) (skipped : List BadLine) (output : List ℕ) →
     EndsWith query at_bad bytes ending output → SkipsUpTo query at_bad bytes ending skipped →

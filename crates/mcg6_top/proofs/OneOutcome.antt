@@ -1,5 +1,5 @@
--- The bytes of a list leave open neither whether its lines are all answered nor what is written: each
--- line has one output, and the first bad line is one.
+-- The bytes of a list leave open neither whether its lines are all answered nor what is written:
+-- each line has one output, and the first bad line is one.
 use Rattle.std.proofs.Common.{◌≡◌, inl, inr, ℕ, List, [], ◌∷◌}
 use Rattle.mcg6_lines.specs.declared.query.Query.{Query}
 use Rattle.mcg6_reader.proofs.OneEnding.{stop_once, whole_not_bad}

@@ -1,5 +1,5 @@
--- A line has one output or one kind of a first fault, and not both: what reads a graph is a function,
--- and each query has one answer.
+-- A line has one output or one kind of a first fault, and not both: what reads a graph is a
+-- function, and each query has one answer.
 use Rattle.std.proofs.Common.{arith}
 use Rattle.mcg6_lines.proofs.OneAnswer.{output_once}
 use Rattle.mcg6_lines.specs.declared.query.Query.{Query}

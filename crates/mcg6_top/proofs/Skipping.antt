@@ -1,5 +1,5 @@
--- Bad lines that are skipped. No line is both answered and bad. So without a report on a skipped line
--- all lines are answered; and where the list ends at a bad line, there is none.
+-- Bad lines that are skipped. No line is both answered and bad. So without a report on a skipped
+-- line all lines are answered; and where the list ends at a bad line, there is none.
 use Rattle.std.proofs.Common.{◌≡◌, ◌∙◌, inl, inr, ℕ, List, [], ◌∷◌, ◌++◌, ap₂, refl, sym, subst, IsFalse, IsTrue, Some, None}
 use Rattle.line_text.specs.declared.faults.FaultKind.{FaultKind}
 use Rattle.line_text.specs.declared.faults.FaultKind.TheVariants.{Extra}

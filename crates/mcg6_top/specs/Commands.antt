@@ -107,7 +107,8 @@ abbrev pub command_if : Option Query → List (List ℕ) → Option ListCommand
 command_if None words = None
 command_if (Some query) words = command_with query words
 
--- what a word and those after it ask for: the second has more to say of the query, or comes after it
+-- what a word and those after it ask for: the second has more to say of the query, or comes after
+-- it
 abbrev pub pair_command : Option Query → (word second : List ℕ) → List (List ℕ) → Option ListCommand
 pair_command (Some query) word second words = command_with query words
 pair_command None word second words = command_if (query_named word) (second ∷ words)

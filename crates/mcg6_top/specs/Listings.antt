@@ -49,8 +49,8 @@ abbrev pub ListStopsAt : Query → AtBadLine → LinePlace → List ℕ → Faul
 ListStopsAt query Stop place line kind = IsBadLine query place line kind
 ListStopsAt query Skip place line kind = ⊥
 
--- the line at that place is skipped, as it is bad with a first error of this kind; or, with none, it
--- is not bad. No line is skipped if the list ends at a bad line
+-- the line at that place is skipped, as it is bad with a first error of this kind; or, with none,
+-- it is not bad. No line is skipped if the list ends at a bad line
 abbrev pub SkipsLine : Query → AtBadLine → LinePlace → List ℕ → Option FaultKind → Type 0
 SkipsLine query Stop place line None = Unit {0}
 SkipsLine query Stop place line (Some kind) = ⊥

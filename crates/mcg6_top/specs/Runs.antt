@@ -1,4 +1,5 @@
--- What a run makes of a source and a sink, as one fact: `run`, `run_to_ending` and the front cite it.
+-- What a run makes of a source and a sink, as one fact: `run`, `run_to_ending` and the front cite
+-- it.
 -- Stated by: mcg6_top. Used by: mcg6_front_top.
 use Rattle.std.specs.Prelude.{◌≡◌, ◌↔◌, ℕ, List, [], Option, Some, None}
 use Rattle.outside.specs.Common.{Rose}

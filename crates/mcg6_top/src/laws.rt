@@ -37,11 +37,11 @@ pub fn one_output_law()
 {}
 
 /// A list for `kinds` or `select` may be split after a line feed, if the second part does not begin
-/// with a line that is just the header. If the first part has no bad line, the output of the list is
-/// that of the first part and then that of the second, and its status is that of the second part.
-/// The same holds if bad lines of the first part are skipped, for the output and for the ending. In
-/// the list, the number of a bad line of the second part is greater by the number of lines of the
-/// first part.
+/// with a line that is just the header. If the first part has no bad line, the output of the list
+/// is that of the first part and then that of the second, and its status is that of the second
+/// part. The same holds if bad lines of the first part are skipped, for the output and for the
+/// ending. In the list, the number of a bad line of the second part is greater by the number of
+/// lines of the first part.
 pub fn split_law()
     ensures outcome { (query : Query) (at_bad : AtBadLine) (first second : List ℕ)
         → IsTrue (is_by_line query) → IsClosedText first → IsFalse (opens_with_header (lines_of second))

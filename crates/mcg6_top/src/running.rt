@@ -60,10 +60,10 @@ fn perform<'a, S: Source, K: Sink>(
 }
 
 /// Does what the command line asks for, as `run` does, and returns how it ended: of a list that
-/// ends with a bad line the number of the first one, its text as far as it was kept, and the kind of
-/// its first error; of a bad graph file the same, the text without its line feed; and a report on
-/// each bad line that was skipped. `None` comes exactly when the words match no row. What it makes
-/// of the source and the sink is `ListRunsTo`.
+/// ends with a bad line the number of the first one, its text as far as it was kept, and the kind
+/// of its first error; of a bad graph file the same, the text without its line feed; and a report
+/// on each bad line that was skipped. `None` comes exactly when the words match no row. What it
+/// makes of the source and the sink is `ListRunsTo`.
 pub fn run_to_ending<'a, S: Source, K: Sink>(
     alloc: Global,
     line: &CommandLine<'a>,
@@ -79,11 +79,11 @@ pub fn run_to_ending<'a, S: Source, K: Sink>(
     }
 }
 
-/// Does what the command line asks for: reads the list that is left of the source, and writes to the
-/// sink what is asked of each of its graphs, in order, as it reads; or reads the graph file that is
-/// left of the source, and writes the graph6 text of its graph. Of a bad line or file nothing is
-/// written: `run_to_ending` returns what is found of it. The list ends at a bad line, unless the
-/// words say that it goes on.
+/// Does what the command line asks for: reads the list that is left of the source, and writes to
+/// the sink what is asked of each of its graphs, in order, as it reads; or reads the graph file
+/// that is left of the source, and writes the graph6 text of its graph. Of a bad line or file
+/// nothing is written: `run_to_ending` returns what is found of it. The list ends at a bad line,
+/// unless the words say that it goes on.
 ///
 /// What it makes of them is `ListRuns`, a record with a line on each of its fields. They say, for
 /// each status, its cause. `outcome` ties the words, the bytes of the list, the status and the

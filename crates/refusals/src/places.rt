@@ -7,8 +7,8 @@ use vset_core::VSet;
 pub struct NodePlace {
     /// The number of steps on the path from the root to the node.
     pub depth: u32,
-    /// Which of these steps, counted from 1, lead to the tree where the shore is one block. The others
-    /// lead to the tree where the complement of the shore is one block.
+    /// Which of these steps, counted from 1, lead to the tree where the shore is one block. The
+    /// others lead to the tree where the complement of the shore is one block.
     pub merged: VSet,
     /// The shore of the cut at the node. `None` if the node is a leaf.
     pub shore: Option<VSet>,

@@ -3,8 +3,8 @@
 use crate::faults::{CoverFault, EarFault, NodeFault, StuckFault};
 use crate::places::{EarPlace, NodePlace};
 
-/// Why an input is refused. Trees, nodes, steps and moves are counted from 1, and nodes in preorder.
-/// The place of a node is left out if more than 128 steps lead to it.
+/// Why an input is refused. Trees, nodes, steps and moves are counted from 1, and nodes in
+/// preorder. The place of a node is left out if more than 128 steps lead to it.
 #[derive(Clone, Copy, Debug, PartialEq)]
 pub enum Refusal {
     /// The graph is not matching covered.

@@ -12,7 +12,7 @@ use crate::words::{leaf_kind_word, push_tally};
 use contraction::{Partition, PlacedEdges, name_of, quotient_graph};
 use graph_core::MultiGraph;
 use std::alloc::{AllocError as Memory, Global};
-use tree_core::{KnownPlace, LeafKind, Partitions, Tally, kind_of, kinds_at, tallied};
+use tree_core::{KnownPlace, LeafKind, Partitions, Tally, kinds_at, leaf_kind_of, tallied};
 
 fn push_leaf_line(text: &mut String, number: usize, kind: LeafKind) -> Result<(), Memory>
     ensures { OnOk result (string_bytes text.new ≡ string_bytes text.old ++ numbered_leaf_line number kind) }
@@ -108,7 +108,7 @@ fn push_quotient(
         leaf_text g.now number p.now.blocks kind) }
 {
     let q = quotient_graph(alloc, g, p)?;
-    let kind = kind_of(alloc, &q)?;
+    let kind = leaf_kind_of(alloc, &q)?;
     push_leaf(alloc, text, number, kind, g, p, &q)?;
     Ok(kind)
 }

@@ -1,6 +1,6 @@
--- A run that is done read what its command asks for, and what it wrote says of this what the outcome
--- says. Done is the status of no bad file and of no refusal, so all files were read and the graph is
--- covered, or both trees are derivations; and each read gave the bytes of its file.
+-- A run that is done read what its command asks for, and what it wrote says of this what the
+-- outcome says. Done is the status of no bad file and of no refusal, so all files were read and the
+-- graph is covered, or both trees are derivations; and each read gave the bytes of its file.
 use Rattle.std.proofs.Common.{◌≡◌, ◌∙◌, ℕ, List, [], ◌∷◌, Option, Some, None, Ok, option_map, refl, sym, ap, subst, inl, inr, codes}
 use Rattle.outside.specs.Common.{Answer, AnswersInTurn, NamedFile, file_named}
 use Rattle.graph_core.proofs.Common.{Graph, IsCovered}

@@ -161,7 +161,8 @@ module _ (g : Graph) (is : IsGraph g) where
         at : (e : ℕ) → Within (size g) e → in_cut g y e ≡ true → (m : Set) × IsPerfect g none m × (m e ≡ true) × (edges_in_cut g m y ≡ 1)
         at e w h = to_met sep e w (crosses_apart g y e h)
 
-        -- no edge of a part of the cut is in a perfect matching, if none is in one with one cut edge
+        -- no edge of a part of the cut is in a perfect matching, if none is in one with one cut
+        -- edge
         unmatched : (out : Set) → ((e : ℕ) → out e ≡ true → in_cut g y e ≡ true) → ((n : Set) → IsPerfect g none n → edges_in_cut g n y ≡ 1 → count (size g) (λ e. n e && out e) ≡ 0) → (m : Set) → count (size g) (λ e. m e && out e) ≡ 0
         unmatched out cuts empty m = elim (cases_lt 0 (count (size g) (λ e. m e && out e))) [
           | inr none_there ↦ omega arith

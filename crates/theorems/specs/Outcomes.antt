@@ -55,8 +55,8 @@ pub record TellsSets (named : NamedGraph) (output : List ℕ) : Type 0 where
   pub line_c : ListsSet named.graph.order output (codes "C") (InC named.graph)
 
 -- the output of `decompose` gives a tight cut decomposition: a tree of nontrivial tight cuts from
--- single vertices on, with bricks and braces at its ends. It is a derivation, and each of its shores
--- is a nontrivial tight shore of the graph itself
+-- single vertices on, with bricks and braces at its ends. It is a derivation, and each of its
+-- shores is a nontrivial tight shore of the graph itself
 pub record TellsDecomposition (g : Graph) (output : List ℕ) : Type 0 where
   pub tree : Shape
   pub cuts : IsTightCutTreeAt g (singles g.order) tree
@@ -89,9 +89,9 @@ pub record TellsKind (named : NamedGraph) (output : List ℕ) : Type 0 where
   pub composite : (x : List ℕ) → structure.kind ≡ Composite x → IsTight named.graph (mem x) × IsNontrivial named.graph.order (mem x)
   pub text : output ≡ with_given_names (analysis_text lines) named.names false
 
--- the output of `ears` tells an ear decomposition, with two ears at once only where neither of
--- them serves alone and no ear decomposition goes on by a single ear, so that the two have no vertex
--- in common, and with single ears where the graph is bipartite
+-- the output of `ears` tells an ear decomposition, with two ears at once only where neither of them
+-- serves alone and no ear decomposition goes on by a single ear, so that the two have no vertex in
+-- common, and with single ears where the graph is bipartite
 pub record TellsEars (g : Graph) (output : List ℕ) : Type 0 where
   pub list : PlainEars
   pub ears : IsEarList g list

@@ -82,13 +82,13 @@ pub fn headline_law()
         → (status ≡ Done) × TellsEars named.graph output }
 {}
 
-/// The headline over what the reads gave, whatever the file store and the sink are: also over a real
-/// file system, which tells no files. A run that ends with the status Done read each file of its
-/// words once, in turn; what these reads gave stands for what the command works on, and what the run
-/// wrote, whole, says of this what the headline says. So if `decompose` ends so, its read gave bytes
-/// that stand for a matching covered graph, and it wrote a text that stands for a tight cut
-/// decomposition of this graph. The premise is the clause `answered` of `run`, for the words of the
-/// command and for Done, so each call of `run` that ends so has the conclusion.
+/// The headline over what the reads gave, whatever the file store and the sink are: also over a
+/// real file system, which tells no files. A run that ends with the status Done read each file of
+/// its words once, in turn; what these reads gave stands for what the command works on, and what
+/// the run wrote, whole, says of this what the headline says. So if `decompose` ends so, its read
+/// gave bytes that stand for a matching covered graph, and it wrote a text that stands for a tight
+/// cut decomposition of this graph. The premise is the clause `answered` of `run`, for the words of
+/// the command and for Done, so each call of `run` that ends so has the conclusion.
 pub fn done_runs_law<S: Shelf, K: Sink>(shelf: &S, sink: &K)
     ensures sets { (graph : List ℕ) (first last : S) (before now : K)
         → GivenOutcome S.reads K.written K.writes (command_of (codes "analyse" ∷ graph ∷ []))
@@ -203,12 +203,12 @@ pub fn report_exists_law()
         ((status : Status) × (output : List ℕ) × Outcome words files status output) }
 {}
 
-/// There is an outcome of every list: for each query, whatever is done at a bad line, a status and an
-/// output for which the query and the bytes of the list stand. The status is Done or BadInput, so the
-/// list settles it, and nothing of the outside does. For each line there is what the query asks of
-/// its graph, or the kind of its first error. So the clauses on lists speak of something, whatever
-/// memory does. A report on a bad line holds its text in memory: the vector shows where one can be,
-/// and nothing is said of what it holds.
+/// There is an outcome of every list: for each query, whatever is done at a bad line, a status and
+/// an output for which the query and the bytes of the list stand. The status is Done or BadInput,
+/// so the list settles it, and nothing of the outside does. For each line there is what the query
+/// asks of its graph, or the kind of its first error. So the clauses on lists speak of something,
+/// whatever memory does. A report on a bad line holds its text in memory: the vector shows where
+/// one can be, and nothing is said of what it holds.
 pub fn list_outcome_exists_law(held: &Vec<u8>)
     ensures line { (query : Query) → HasAnswer query }
     ensures outcome { (query : Query) (at_bad : AtBadLine) (bytes : List ℕ) →

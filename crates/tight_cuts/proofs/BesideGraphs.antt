@@ -1,6 +1,6 @@
--- The graph of the edges that listed matchings hold together with one edge, made edge by edge. Idea:
--- each edge of it comes from one of the edges so far, and each of these that is held with e is in
--- it.
+-- The graph of the edges that listed matchings hold together with one edge, made edge by edge.
+-- Idea: each edge of it comes from one of the edges so far, and each of these that is held with e
+-- is in it.
 use Rattle.std.proofs.Common.{◌≡◌, ℕ, ◌+◌, ◌≤◌, ◌<◌, ◌≢◌, true, ◌&&◌, List, [], ◌∷◌, ◌++◌, ap, ◌∙◌, arith, inl, inr, subst, ◌-◌, length-append, slice_index_or}
 use Rattle.counting.proofs.Common.{Any-from_list_any, list_any_at, and_from, and_parts, cases_lt, get_or_append_left, get_or-append_seam, Within, mem, none}
 use Rattle.graph_core.proofs.Common.{Graph, size, first_end, second_end, with_edge, IsPerfect, Together}

@@ -21,8 +21,8 @@ total_large : (n : ℕ) (f : ℕ → ℕ) → ((v : ℕ) → Within n v → f v 
 total_large zero f h = omega arith
 total_large (suc n) f h = let i = total_large n f (λ v w. h v (omega arith)) in let j = h (suc n) (omega arith) in omega arith
 
--- what a least cut gives: an odd set that each listed matching crosses once, and the common shore if
--- it is tight
+-- what a least cut gives: an odd set that each listed matching crosses once, and the common shore
+-- if it is tight
 pub record IsCutShore (g : Graph) (a b : ℕ) (list : List (List ℕ)) (x y : ℕ) (s : Set) : Type 0 where
   pub odd : is_odd (count g.order s) ≡ true
   pub odd_complement : is_odd (count g.order (complement s)) ≡ true

@@ -1,6 +1,6 @@
--- A perfect matching with two edges in the cut of an odd set has a third there, by parity. So if each
--- vertex at which edges leave the set is alone, or has at most one such vertex after it, then no
--- perfect matching has two edges in the cut.
+-- A perfect matching with two edges in the cut of an odd set has a third there, by parity. So if
+-- each vertex at which edges leave the set is alone, or has at most one such vertex after it, then
+-- no perfect matching has two edges in the cut.
 use Rattle.counting.proofs.Common.{◌≡◌, ◌≢◌, ◌⊎◌, ℕ, suc, List, [], ◌∷◌, length, ◌<◌, ◌≤◌, ◌+◌, ◌%◌, ◌==◌, ◌&&◌, ◌↔◌, Bool, true, sym, ap, ◌∙◌, subst, arith, inl, inr, and_from, and_parts, cases_order, count, count_congr, count_member, count_minus, is_odd, mem, minus, odd-double, singleton, Within, IsRisingIn, Set, none, count_mem_length, odd_remainder}
 use Rattle.graph_core.proofs.Common.{Graph, IsGraph, in_cut, inside, parity, size, IsEnd, IsPerfect, edges_in_cut}
 use Rattle.allowed_edges.proofs.PairSteps.{apart_shared}

@@ -4,7 +4,7 @@
 //! `tree_core`). Of another tree it names the first node in preorder that breaks a rule, with the
 //! first of the rules 1 to 5 that it breaks and what shows it (`IsRefused` of `specs/Refusals`);
 //! for a graph that is not matching covered it gives the first reason. `scan_covered` also counts
-//! the leaves of a derivation, its bricks and its braces (`IsScanned` of `specs/Scans`), and
+//! the leaves of a derivation, its bricks and its braces (`IsScanResult` of `specs/Scans`), and
 //! `scan_known` does so for several trees of one graph, with their cuts and leaves kept
 //! (`KnownPlaces`). `replay` makes a script of moves on a derivation and judges each tree on the
 //! way (`IsReplay` of `specs/Replays`). By the `laws` the answers exclude one another, and a

@@ -1,7 +1,7 @@
 //! Moves that take a derivation to a derivation, found at the node where they change the tree.
 //!
-//! Each Rotate does. A Switch of two blocks does if its new shore is nontrivial and tight where
-//! it stands: all other shores follow from it (`laws::switch_derives_law` of `move_laws`). So one cut
+//! Each Rotate does. A Switch of two blocks does if its new shore is nontrivial and tight where it
+//! stands: all other shores follow from it (`laws::switch_derives_law` of `move_laws`). So one cut
 //! is judged, in place of the tree.
 ghost use Rattle.std.specs.Prelude.{◌≡◌, ◌-◌, IfOk, IsTrue, All};
 ghost use Rattle.counting.specs.Common.{Within};

@@ -42,5 +42,5 @@ pub use place::Place;
 pub use rotation::{are_apart, rotate};
 pub use switched_shores::holds_greatest;
 pub use switching::switch;
-pub use tallies::{LeafKind, Tally, count_leaves, kind_by_side, kind_of, tallied};
+pub use tallies::{LeafKind, Tally, count_leaves, kind_by_side, leaf_kind_of, tallied};
 pub use tree::{MOST_NODES, Tree, copy, depth, fits, nodes};

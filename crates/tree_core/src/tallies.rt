@@ -30,7 +30,7 @@ pub struct Tally {
 
 /// The kind of a leaf with this quotient: a brace exactly when the quotient is bipartite, and a
 /// brick otherwise.
-pub fn kind_of(alloc: Global, q: &MultiGraph) -> Result<LeafKind, Memory>
+pub fn leaf_kind_of(alloc: Global, q: &MultiGraph) -> Result<LeafKind, Memory>
     ensures { IfOk result (IsKindOf q.now) }
 {
     match q.two_sides(alloc)? {
@@ -56,7 +56,7 @@ fn leaf_kind(alloc: Global, g: &MultiGraph, p: &Partition) -> Result<LeafKind, M
     ensures { IfOk result (λ kind. IsLeafKind g.now p.now.blocks kind) }
 {
     let q = quotient_graph(alloc, g, p)?;
-    kind_of(alloc, &q)
+    leaf_kind_of(alloc, &q)
 }
 
 // The kinds of the leaves, in order.

@@ -5,7 +5,7 @@ ghost use Rattle.tree_core.specs.Common.{leaf_count, shape_of};
 ghost use Rattle.uncross.specs.Common.{exchange_at, images_at};
 
 use crate::block_images::{Images, kept_images, merged_images};
-use crate::leaf_orders::count_leaves;
+use crate::leaf_orders::leaf_total;
 use tree_core::{MOST_NODES, Side, Tree};
 use vset_core::{MOST_VERTICES, VSet};
 
@@ -62,12 +62,12 @@ pub fn exchange_at(n: u32, path: &[Side], u: VSet, v: VSet, k: u32, tree: &Tree)
             kept,
             merged,
         } => {
-            let middle = k + count_leaves(kept);
+            let middle = k + leaf_total(kept);
             match path.split_first() {
                 None => Exchange {
                     before: k,
                     middle,
-                    last: middle + count_leaves(merged),
+                    last: middle + leaf_total(merged),
                     kept: kept_images(n, *shore, u, v),
                     merged: merged_images(n, *shore, u, v),
                 },

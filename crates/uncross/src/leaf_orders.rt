@@ -11,13 +11,13 @@ use tree_core::{MOST_NODES, Move, Side, Tree, holds_greatest};
 use vset_core::VSet;
 
 /// The number of leaves of a tree. Takes no memory.
-pub fn count_leaves(tree: &Tree) -> u32
+pub fn leaf_total(tree: &Tree) -> u32
     requires { leaf_count (shape_of tree.now) ≤ MOST_NODES }
     ensures { result ≡ leaf_count (shape_of tree.now) }
 {
     match tree {
         Tree::Leaf => 1,
-        Tree::Cut { kept, merged, .. } => count_leaves(kept) + count_leaves(merged),
+        Tree::Cut { kept, merged, .. } => leaf_total(kept) + leaf_total(merged),
     }
 }
 
@@ -49,7 +49,7 @@ fn push_kept_order(order: &mut Numbers, u: VSet, k: u32, tree: &Tree) -> Result<
             kept,
             merged,
         } => {
-            let before = k + count_leaves(kept);
+            let before = k + leaf_total(kept);
             if u.is_subset(*shore) {
                 push_kept_order(order, u, before, merged)?;
                 push_kept_order(order, u, k, kept)
@@ -79,8 +79,8 @@ fn push_switch_order(
     match tree {
         Tree::Leaf => push_numbers(order, k, 1),
         Tree::Cut { kept, merged, .. } => {
-            let inside = count_leaves(kept);
-            let outside = count_leaves(merged);
+            let inside = leaf_total(kept);
+            let outside = leaf_total(merged);
             if holds_greatest(v, n) {
                 push_numbers(order, k + inside, outside)?;
                 push_numbers(order, k, inside)
@@ -100,7 +100,7 @@ fn push_rotate_order(order: &mut Numbers, side: Side, k: u32, tree: &Tree) -> Re
         (length order.new ≡ length order.old + leaf_count (shape_of tree.now)) }
 {
     match side {
-        Side::Kept => push_numbers(order, k, count_leaves(tree)),
+        Side::Kept => push_numbers(order, k, leaf_total(tree)),
         Side::Merged => match tree {
             Tree::Leaf => push_numbers(order, k, 1),
             Tree::Cut {
@@ -128,7 +128,7 @@ fn push_merged_order(
         (length order.new ≡ length order.old + leaf_count (shape_of kept.now) + leaf_count
         (shape_of merged.now)) }
 {
-    let first = count_leaves(kept);
+    let first = leaf_total(kept);
     match merged {
         Tree::Leaf => push_numbers(order, k, first + 1),
         Tree::Cut {
@@ -136,8 +136,8 @@ fn push_merged_order(
             kept: middle,
             merged: last,
         } => {
-            let second = count_leaves(middle);
-            let third = count_leaves(last);
+            let second = leaf_total(middle);
+            let third = leaf_total(last);
             if shore.is_subset(*lower) {
                 return push_numbers(order, k, first + second + third);
             }
@@ -192,11 +192,11 @@ fn push_order_along(
     match tree {
         Tree::Leaf => push_numbers(order, k, 1),
         Tree::Cut { kept, merged, .. } => {
-            let first = count_leaves(kept);
+            let first = leaf_total(kept);
             match side {
                 Side::Kept => {
                     push_order_along(order, rest, change, k, kept)?;
-                    push_numbers(order, k + first, count_leaves(merged))
+                    push_numbers(order, k + first, leaf_total(merged))
                 }
                 Side::Merged => {
                     push_numbers(order, k, first)?;
@@ -217,7 +217,7 @@ fn push_move_order(order: &mut Numbers, n: u32, tree: &Tree, m: &Move) -> Result
 {
     match m {
         Move::Rotate { path } => match path.as_slice().split_last() {
-            None => push_numbers(order, 0, count_leaves(tree)),
+            None => push_numbers(order, 0, leaf_total(tree)),
             Some((last, parents)) => {
                 push_order_along(order, parents, &Change::Rotate(*last), 0, tree)
             }

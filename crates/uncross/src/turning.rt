@@ -117,8 +117,8 @@ fn raise_turned(
     Ok(Turned { tree, moves })
 }
 
-// With the outer corner, or its complement, at the root: the corners are exchanged in the child that
-// contains x, and its new root is brought up. The moves made so far come first.
+// With the outer corner, or its complement, at the root: the corners are exchanged in the child
+// that contains x, and its new root is brought up. The moves made so far come first.
 fn switch_below(alloc: Global, corners: Corners, tree: Tree, moves: Moves) -> Result<Turned, Memory>
     requires { Fits corners.order (shape_of tree) }
     ensures { IfOk result

@@ -8,8 +8,8 @@ abbrev pub leads : List (List ℕ) → ℕ → ℕ → Bool
 leads rows u v = mem (item rows u) v
 
 -- what is found has the roots and is in `within`, and no arc leads from it to another vertex there;
--- each set that has the roots and that no arc from an inner vertex leaves, within `within`, contains
--- what is found
+-- each set that has the roots and that no arc from an inner vertex leaves, within `within`,
+-- contains what is found
 pub record IsFlood (rows : List (List ℕ)) (within roots inner found : Set) : Type 0 where
   pub start : (v : ℕ) → roots v ≡ true → found v ≡ true
   pub inside : (v : ℕ) → found v ≡ true → within v ≡ true
