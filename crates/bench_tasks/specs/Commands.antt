@@ -24,13 +24,13 @@ use Rattle.bench_tasks.specs.declared.verbs.NumbersVerb.TheVariants.{Grow}
 
 -- a command: its verb with the names of its files, or its numbers
 pub data Command : Type 0 where
-  OnGraph : (verb : GraphVerb) (graph : List ℕ) → Command
-  OnSimpleGraph : (verb : SimpleGraphVerb) (graph : List ℕ) → Command
-  OnTree : (verb : TreeVerb) (graph tree : List ℕ) → Command
-  OnPicks : (verb : PicksVerb) (graph picks : List ℕ) → Command
-  OnEars : (verb : EarsVerb) (graph ears : List ℕ) → Command
-  OnMoves : (verb : MovesVerb) (graph tree moves : List ℕ) → Command
-  OnTrees : (verb : TreesVerb) (graph first second : List ℕ) → Command
+  OnGraph : (verb : GraphVerb) (graph_file : List ℕ) → Command
+  OnSimpleGraph : (verb : SimpleGraphVerb) (graph_file : List ℕ) → Command
+  OnTree : (verb : TreeVerb) (graph_file tree_file : List ℕ) → Command
+  OnPicks : (verb : PicksVerb) (graph_file picks_file : List ℕ) → Command
+  OnEars : (verb : EarsVerb) (graph_file ears_file : List ℕ) → Command
+  OnMoves : (verb : MovesVerb) (graph_file tree_file moves_file : List ℕ) → Command
+  OnTrees : (verb : TreesVerb) (graph_file first_file second_file : List ℕ) → Command
   OnNumbers : (verb : NumbersVerb) (seed pieces : ℕ) → Command
 
 -- the command that a word and the name of a file ask for

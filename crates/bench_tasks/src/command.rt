@@ -23,44 +23,44 @@ pub enum Command<'a> {
     /// On a graph.
     OnGraph {
         verb: GraphVerb,
-        graph: &'a str,
+        graph_file: &'a str,
     },
     /// On a simple graph.
     OnSimpleGraph {
         verb: SimpleGraphVerb,
-        graph: &'a str,
+        graph_file: &'a str,
     },
     /// On a graph and a tree.
     OnTree {
         verb: TreeVerb,
-        graph: &'a str,
-        tree: &'a str,
+        graph_file: &'a str,
+        tree_file: &'a str,
     },
     /// On a graph and a list of picks.
     OnPicks {
         verb: PicksVerb,
-        graph: &'a str,
-        picks: &'a str,
+        graph_file: &'a str,
+        picks_file: &'a str,
     },
     /// On a graph and a list of ears.
     OnEars {
         verb: EarsVerb,
-        graph: &'a str,
-        ears: &'a str,
+        graph_file: &'a str,
+        ears_file: &'a str,
     },
     /// On a graph, a tree and moves.
     OnMoves {
         verb: MovesVerb,
-        graph: &'a str,
-        tree: &'a str,
-        moves: &'a str,
+        graph_file: &'a str,
+        tree_file: &'a str,
+        moves_file: &'a str,
     },
     /// On a graph and two trees.
     OnTrees {
         verb: TreesVerb,
-        graph: &'a str,
-        first: &'a str,
-        second: &'a str,
+        graph_file: &'a str,
+        first_file: &'a str,
+        second_file: &'a str,
     },
     /// On numbers; it reads no file.
     OnNumbers {

@@ -27,13 +27,13 @@ fn first_file(command: Command<'_>) -> Option<CommandFile<'_>>
     ensures { option_map file_seen result ≡ slice_get (files_of (asked command.entry)) 0 }
 {
     match command {
-        Command::OnSimpleGraph { graph, .. } => some_file(graph, FileKind::Graph6),
-        Command::OnGraph { graph, .. }
-        | Command::OnTree { graph, .. }
-        | Command::OnPicks { graph, .. }
-        | Command::OnEars { graph, .. }
-        | Command::OnMoves { graph, .. }
-        | Command::OnTrees { graph, .. } => some_file(graph, FileKind::Graph),
+        Command::OnSimpleGraph { graph_file, .. } => some_file(graph_file, FileKind::Graph6),
+        Command::OnGraph { graph_file, .. }
+        | Command::OnTree { graph_file, .. }
+        | Command::OnPicks { graph_file, .. }
+        | Command::OnEars { graph_file, .. }
+        | Command::OnMoves { graph_file, .. }
+        | Command::OnTrees { graph_file, .. } => some_file(graph_file, FileKind::Graph),
         Command::OnNumbers { .. } => None,
     }
 }
@@ -43,12 +43,12 @@ fn second_file(command: Command<'_>) -> Option<CommandFile<'_>>
     ensures { option_map file_seen result ≡ slice_get (files_of (asked command.entry)) 1 }
 {
     match command {
-        Command::OnTree { tree, .. } | Command::OnMoves { tree, .. } => {
-            some_file(tree, FileKind::Tree)
+        Command::OnTree { tree_file, .. } | Command::OnMoves { tree_file, .. } => {
+            some_file(tree_file, FileKind::Tree)
         }
-        Command::OnTrees { first, .. } => some_file(first, FileKind::Tree),
-        Command::OnPicks { picks, .. } => some_file(picks, FileKind::Picks),
-        Command::OnEars { ears, .. } => some_file(ears, FileKind::Ears),
+        Command::OnTrees { first_file, .. } => some_file(first_file, FileKind::Tree),
+        Command::OnPicks { picks_file, .. } => some_file(picks_file, FileKind::Picks),
+        Command::OnEars { ears_file, .. } => some_file(ears_file, FileKind::Ears),
         Command::OnGraph { .. } | Command::OnSimpleGraph { .. } | Command::OnNumbers { .. } => None,
     }
 }
@@ -58,8 +58,8 @@ fn third_file(command: Command<'_>) -> Option<CommandFile<'_>>
     ensures { option_map file_seen result ≡ slice_get (files_of (asked command.entry)) 2 }
 {
     match command {
-        Command::OnMoves { moves, .. } => some_file(moves, FileKind::Moves),
-        Command::OnTrees { second, .. } => some_file(second, FileKind::Tree),
+        Command::OnMoves { moves_file, .. } => some_file(moves_file, FileKind::Moves),
+        Command::OnTrees { second_file, .. } => some_file(second_file, FileKind::Tree),
         Command::OnGraph { .. }
         | Command::OnSimpleGraph { .. }
         | Command::OnTree { .. }

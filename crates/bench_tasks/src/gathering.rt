@@ -21,42 +21,56 @@ pub fn gather<S: Shelf>(alloc: Global, command: Command<'_>, shelf: &mut S) -> R
     ensures asked { IfOk result (λ task. IsTaskOf (asked command.entry) (task_of task)) }
 {
     match command {
-        Command::OnGraph { verb, graph } => load_first(alloc, &GraphFile, graph, shelf).map(
-            |named| Task::OnGraph { verb, named },
-        ),
-        Command::OnSimpleGraph { verb, graph } => {
-            load_first(alloc, &Graph6File, graph, shelf).map(|simple| Task::OnSimpleGraph {
+        Command::OnGraph { verb, graph_file } => load_first(
+            alloc, &GraphFile, graph_file, shelf,
+        ).map(|named| Task::OnGraph { verb, named }),
+        Command::OnSimpleGraph { verb, graph_file } => {
+            load_first(alloc, &Graph6File, graph_file, shelf).map(|simple| Task::OnSimpleGraph {
                 verb,
                 simple,
             })
         }
-        Command::OnTree { verb, graph, tree } => load_tree(alloc, graph, tree, shelf).map(
-            |given| Task::OnTree { verb, given },
-        ),
-        Command::OnPicks { verb, graph, picks } => load_picks(alloc, graph, picks, shelf).map(
-            |given| Task::OnPicks { verb, given },
-        ),
-        Command::OnEars { verb, graph, ears } => load_ears(alloc, graph, ears, shelf).map(
-            |given| Task::OnEars { verb, given },
-        ),
+        Command::OnTree {
+            verb,
+            graph_file,
+            tree_file,
+        } => load_tree(alloc, graph_file, tree_file, shelf).map(|given| Task::OnTree {
+            verb,
+            given,
+        }),
+        Command::OnPicks {
+            verb,
+            graph_file,
+            picks_file,
+        } => load_picks(alloc, graph_file, picks_file, shelf).map(|given| Task::OnPicks {
+            verb,
+            given,
+        }),
+        Command::OnEars {
+            verb,
+            graph_file,
+            ears_file,
+        } => load_ears(alloc, graph_file, ears_file, shelf).map(|given| Task::OnEars {
+            verb,
+            given,
+        }),
         Command::OnMoves {
             verb,
-            graph,
-            tree,
-            moves,
-        } => load_moves(alloc, graph, tree, moves, shelf).map(|given| Task::OnMoves {
+            graph_file,
+            tree_file,
+            moves_file,
+        } => load_moves(alloc, graph_file, tree_file, moves_file, shelf).map(|given| Task::OnMoves {
             verb,
             given,
         }),
         Command::OnTrees {
             verb,
-            graph,
-            first,
-            second,
-        } => load_trees(alloc, graph, first, second, shelf).map(|given| Task::OnTrees {
-            verb,
-            given,
-        }),
+            graph_file,
+            first_file,
+            second_file,
+        } => load_trees(alloc, graph_file, first_file, second_file, shelf).map(
+            |given| Task::OnTrees { verb, given },
+        ),
         Command::OnNumbers { verb, growth } => Ok(Task::OnNumbers { verb, growth }),
     }
 }

@@ -29,60 +29,65 @@ fn grow_command<'a>(seed: &str, pieces: &str) -> Option<Command<'a>>
 }
 
 // The command of that verb on the graph of that file.
-fn on_graph(verb: GraphVerb, graph: &str) -> Command<'_>
-    ensures { asked result ≡ OnGraph verb graph.now }
+fn on_graph(verb: GraphVerb, graph_file: &str) -> Command<'_>
+    ensures { asked result ≡ OnGraph verb graph_file.now }
 {
-    Command::OnGraph { verb, graph }
+    Command::OnGraph { verb, graph_file }
 }
 
 // The command of that verb on the graph of a file and the trees of two.
-fn on_trees<'a>(verb: TreesVerb, graph: &'a str, first: &'a str, second: &'a str) -> Command<'a>
-    ensures { asked result ≡ OnTrees verb graph.now first.now second.now }
+fn on_trees<'a>(
+    verb: TreesVerb,
+    graph_file: &'a str,
+    first_file: &'a str,
+    second_file: &'a str,
+) -> Command<'a>
+    ensures { asked result ≡ OnTrees verb graph_file.now first_file.now second_file.now }
 {
     Command::OnTrees {
         verb,
-        graph,
-        first,
-        second,
+        graph_file,
+        first_file,
+        second_file,
     }
 }
 
 // The command that a word and the name of a file ask for.
-fn graph_command<'a>(word: &str, graph: &'a str) -> Option<Command<'a>>
-    ensures { option_map asked result ≡ graph_command word.now graph.now }
+fn graph_command<'a>(word: &str, graph_file: &'a str) -> Option<Command<'a>>
+    ensures { option_map asked result ≡ graph_command word.now graph_file.now }
 {
     match word {
-        "analyse" => Some(on_graph(GraphVerb::Analyse, graph)),
-        "convert" => Some(on_graph(GraphVerb::Convert, graph)),
+        "analyse" => Some(on_graph(GraphVerb::Analyse, graph_file)),
+        "convert" => Some(on_graph(GraphVerb::Convert, graph_file)),
         "analyse6" => Some(Command::OnSimpleGraph {
             verb: SimpleGraphVerb::Analyse6,
-            graph,
+            graph_file,
         }),
-        "ears" => Some(on_graph(GraphVerb::Ears, graph)),
+        "ears" => Some(on_graph(GraphVerb::Ears, graph_file)),
         _ => None,
     }
 }
 
 // The command that a word, the name of a file, and a second name or the word of an order ask for;
 // or a word and two numbers.
-fn pair_command<'a>(word: &str, graph: &'a str, second: &'a str) -> Option<Command<'a>>
-    ensures { option_map asked result ≡ pair_command word.now graph.now second.now }
+fn pair_command<'a>(word: &str, first: &'a str, second: &'a str) -> Option<Command<'a>>
+    ensures { option_map asked result ≡ pair_command word.now first.now second.now }
 {
     match word {
         "check" => Some(Command::OnTree {
             verb: TreeVerb::Check,
-            graph,
-            tree: second,
+            graph_file: first,
+            tree_file: second,
         }),
         "checkears" => Some(Command::OnEars {
             verb: EarsVerb::CheckEars,
-            graph,
-            ears: second,
+            graph_file: first,
+            ears_file: second,
         }),
-        "grow" => grow_command(graph, second),
+        "grow" => grow_command(first, second),
         "decompose" => NamedOrder::of_word(second).map(|order| on_graph(
             GraphVerb::Decompose { order },
-            graph,
+            first,
         )),
         _ => None,
     }
@@ -92,26 +97,26 @@ fn pair_command<'a>(word: &str, graph: &'a str, second: &'a str) -> Option<Comma
 // further one ask for.
 fn triple_command<'a>(
     word: &str,
-    graph: &'a str,
+    graph_file: &'a str,
     second: &'a str,
     third: &'a str,
 ) -> Option<Command<'a>>
     ensures { option_map asked result ≡
-        triple_command word.now graph.now second.now third.now }
+        triple_command word.now graph_file.now second.now third.now }
 {
     match word {
         "replay" => Some(Command::OnMoves {
             verb: MovesVerb::Replay,
-            graph,
-            tree: second,
-            moves: third,
+            graph_file,
+            tree_file: second,
+            moves_file: third,
         }),
-        "compare" => Some(on_trees(TreesVerb::Compare, graph, second, third)),
-        "script" => Some(on_trees(TreesVerb::Script, graph, second, third)),
+        "compare" => Some(on_trees(TreesVerb::Compare, graph_file, second, third)),
+        "script" => Some(on_trees(TreesVerb::Script, graph_file, second, third)),
         "decompose" if second == "script" => Some(Command::OnPicks {
             verb: PicksVerb::DecomposeBy,
-            graph,
-            picks: third,
+            graph_file,
+            picks_file: third,
         }),
         _ => None,
     }
