@@ -1,27 +1,15 @@
 //! The structure of a covered graph, as `analyse` reports it.
-ghost use Rattle.std.specs.Prelude.{◌≡◌, IfOk};
-ghost use Rattle.std.specs.Option.{option_map};
-ghost use Rattle.graph_core.specs.Common.{IsVerdict, pair_of};
-ghost use Rattle.separation_kit.specs.Pairs.{pair_value as pair_in};
+ghost use Rattle.std.specs.Prelude.{IfOk};
+ghost use Rattle.graph_core.specs.Common.{IsVerdict};
 ghost use Rattle.bench_outcomes.specs.Common.{IsStructure, TellsStructure};
 
 use barrier_kit::classes_of;
-use graph_core::{Ends, Verdict};
+use graph_core::Verdict;
 use graph_facts::{Covered, Facts};
 use leaf_kinds::kind_of;
 use report_text::Structure;
-use separation_kit::{FirstPairs, Pair};
+use separation_kit::FirstPairs;
 use std::alloc::{AllocError as Memory, Global};
-
-// The two vertices of a pair.
-fn ends_of(pair: Option<Pair>) -> Option<Ends>
-    ensures { option_map pair_of result ≡ option_map pair_in pair }
-{
-    match pair {
-        Some(Pair { a, b }) => Some(Ends { a, b }),
-        None => None,
-    }
-}
 
 // The structure of a covered graph.
 fn structure(alloc: Global, c: &Covered) -> Result<Structure, Memory>
@@ -29,10 +17,9 @@ fn structure(alloc: Global, c: &Covered) -> Result<Structure, Memory>
 {
     let classes = classes_of(alloc, c)?;
     let pairs = FirstPairs::with_classes(c, &classes);
-    let cut = pairs.any_cut();
+    let equivalent = pairs.equivalent();
+    let cutpair = pairs.any_cut();
     let kind = kind_of(alloc, &pairs)?;
-    let equivalent = ends_of(pairs.equivalent());
-    let cutpair = ends_of(cut);
     Ok(Structure {
         classes,
         equivalent,

@@ -11,4 +11,5 @@
 
 mod three_sets;
 
-pub use three_sets::{ThreeSets, sets, sets_of};
+pub use graph_core::ThreeSets;
+pub use three_sets::{sets, sets_of};

@@ -3,21 +3,10 @@ ghost use Rattle.std.specs.Prelude.{◌≤◌, IfOk};
 ghost use Rattle.counting.specs.Common.{Lists};
 ghost use Rattle.graph_core.specs.Common.{InD, InA, InC};
 
-use graph_core::MultiGraph;
+use graph_core::{MultiGraph, ThreeSets};
 use graph_facts::Facts;
 use std::alloc::{AllocError as Memory, Global};
 use vset_core::VSet;
-
-/// The Gallai-Edmonds sets: each vertex is in exactly one of them.
-#[derive(Clone, Copy)]
-pub struct ThreeSets {
-    /// The vertices that some maximum matching misses.
-    pub d: VSet,
-    /// The vertices outside `d` that are adjacent to a vertex of `d`.
-    pub a: VSet,
-    /// The rest.
-    pub c: VSet,
-}
 
 /// The Gallai-Edmonds sets of `g`. The only error is `Memory`.
 pub fn sets(alloc: Global, g: &MultiGraph) -> Result<ThreeSets, Memory>
@@ -35,12 +24,12 @@ pub fn sets_of(facts: &Facts) -> ThreeSets
     ensures c { Lists facts.now.order result.c (InC facts.now) }
 {
     let frame = facts.frame();
-    let met = frame.outer.union(frame.inner);
+    let met = frame.sets.outer.union(frame.sets.inner);
     let rest = VSet::full(facts.order()).minus(met);
     rest.rises();
     ThreeSets {
-        d: frame.outer,
-        a: frame.inner,
+        d: frame.sets.outer,
+        a: frame.sets.inner,
         c: rest,
     }
 }

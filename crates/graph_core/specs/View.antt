@@ -1,5 +1,5 @@
 -- How the code's multigraph is seen: its order and its list of ends, within the limits of size.
--- Stated by: graph_core, grow_gen, match_search, match_core, graph_facts and 6 more.
+-- Stated by: graph_core, grow_gen, match_search, match_core, graph_facts and 5 more.
 -- Used by: tight_cuts, bench_outcomes, theorems, plain_graph.
 use Rattle.std.specs.Prelude.{ℕ, ◌≤◌, ◌==◌, ◌&&◌, ◌||◌, Bool, List, map}
 use Rattle.graph_core.specs.Graph.{Graph, IsMultigraph, size}

@@ -1,7 +1,8 @@
-//! The ends of an edge.
+//! Two vertices: the ends of an edge, or a pair.
 ghost use Rattle.std.specs.Prelude.{◌≡◌};
 
-/// The two ends of an edge, in the order in which they were given.
+/// Two vertices: the ends of an edge in the order in which they were given, or a pair that a search
+/// finds, the smaller first.
 #[derive(Clone, Copy, Debug, PartialEq, Eq)]
 pub struct Ends {
     pub a: u32,

@@ -25,6 +25,7 @@ mod neighbours;
 mod search;
 mod sides;
 mod simple;
+mod three_sets;
 mod tree;
 mod verdict;
 
@@ -35,4 +36,5 @@ pub use graph::{MOST_EDGES, MultiGraph};
 pub use line_text::{FaultKind, TextFault};
 pub use lists::{Numbers, SetList};
 pub use sides::{Sides, parts_and_side};
+pub use three_sets::ThreeSets;
 pub use verdict::{Kind, Reason, Verdict};

@@ -18,14 +18,13 @@ pub struct Found {
     pub berge: VSet,
 }
 
-/// A maximum matching with the Gallai-Edmonds sets: `outer` is D, the vertices that some maximum
-/// matching misses, and `inner` is A, the other vertices adjacent to D. A is the Berge set of
-/// `found`.
+/// A maximum matching with the Gallai-Edmonds sets: `sets.outer` is D, the vertices that some
+/// maximum matching misses, and `sets.inner` is A, the other vertices adjacent to D. A is the Berge
+/// set of `found`.
 #[derive(Drop)]
 pub struct FrameSets {
     pub found: Found,
-    pub outer: VSet,
-    pub inner: VSet,
+    pub sets: FinalSets,
 }
 
 /// A maximum matching of `g` and a Berge set S, here `berge`: the matching misses exactly o(S) -
@@ -50,32 +49,30 @@ pub fn maximum(alloc: Global, g: &MultiGraph) -> Result<Found, Memory>
 pub fn frame(alloc: Global, g: &MultiGraph) -> Result<FrameSets, Memory>
     ensures of { IfOk result (λ f. IsOf g.now f.found.matching) }
     ensures maximum { IfOk result (λ f. IsMaximum g.now none (mem (edges_of f.found.matching))) }
-    ensures berge { IfOk result (λ f. f.found.berge ≡ f.inner) }
+    ensures berge { IfOk result (λ f. f.found.berge ≡ f.sets.inner) }
     ensures attains { IfOk result
-        (λ f. Attains g.now none (mem f.inner) (mem (edges_of f.found.matching))) }
-    ensures outer_in { IfOk result (λ f. IsRisingIn g.now.order f.outer) }
-    ensures inner_in { IfOk result (λ f. IsRisingIn g.now.order f.inner) }
+        (λ f. Attains g.now none (mem f.sets.inner) (mem (edges_of f.found.matching))) }
+    ensures outer_in { IfOk result (λ f. IsRisingIn g.now.order f.sets.outer) }
+    ensures inner_in { IfOk result (λ f. IsRisingIn g.now.order f.sets.inner) }
     ensures odd { IfOk result
-        (λ f. (v : ℕ) → Within g.now.order v → (mem f.outer v ≡ true) ↔
-        ((mem f.inner v ≡ false) ×
-        (is_odd (count g.now.order (joined g.now (mem f.inner) v)) ≡ true))) }
+        (λ f. (v : ℕ) → Within g.now.order v → (mem f.sets.outer v ≡ true) ↔
+        ((mem f.sets.inner v ≡ false) ×
+        (is_odd (count g.now.order (joined g.now (mem f.sets.inner) v)) ≡ true))) }
     ensures missed { IfOk result
-        (λ f. (v : ℕ) → Within g.now.order v → (mem f.outer v ≡ true) ↔ InD g.now v) }
+        (λ f. (v : ℕ) → Within g.now.order v → (mem f.sets.outer v ≡ true) ↔ InD g.now v) }
     ensures next { IfOk result
-        (λ f. (v : ℕ) → Within g.now.order v → (mem f.inner v ≡ true) ↔ InA g.now v) }
+        (λ f. (v : ℕ) → Within g.now.order v → (mem f.sets.inner v ≡ true) ↔ InA g.now v) }
 {
     g.keeps_limits();
     let Mated { mate, sets } = find_mates(alloc, g, VSet::empty())?;
-    let FinalSets { outer, inner } = sets;
-    outer.rises();
-    inner.rises();
+    sets.outer.rises();
+    sets.inner.rises();
     let matching = matching_by(alloc, g, &mate)?;
     Ok(FrameSets {
         found: Found {
             matching,
-            berge: inner,
+            berge: sets.inner,
         },
-        outer,
-        inner,
+        sets,
     })
 }

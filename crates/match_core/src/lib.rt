@@ -25,6 +25,7 @@ mod repairs;
 
 pub use frames::{Found, FrameSets, frame, maximum};
 pub use lazy_partners::LazyPartners;
+pub use match_search::FinalSets;
 pub use matching::{MatchRow, Matching, matching_of};
 pub use partner_table::{PartnerTable, all_partners, partners};
 pub use questions::{perfect_with, perfect_without};

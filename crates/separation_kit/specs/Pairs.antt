@@ -1,16 +1,12 @@
 -- How contracts see the code's pairs of vertices.
--- Stated by: separation_kit, bench_reports. Used by: tight_cuts.
+-- Stated by: separation_kit.
 use Rattle.std.specs.Prelude.{◌≡◌, ℕ, ◌<◌, Bool, true, false, not}
 use Rattle.counting.specs.Common.{Within, pair_set}
 use Rattle.graph_core.specs.Common.{Graph, has_perfect}
-use Rattle.separation_kit.specs.declared.pair.Pair.{Pair}
-
--- the two vertices as a pair
-abbrev pub pair_value : Pair → ℕ × ℕ
-pair_value p = (p.a, p.b)
+use Rattle.graph_core.specs.declared.ends.Ends.{Ends}
 
 -- two vertices of 1 to n, the smaller first
-pub record IsPairIn (n : ℕ) (p : Pair) : Type 0 where
+pub record IsPairIn (n : ℕ) (p : Ends) : Type 0 where
   pub first : Within n p.a
   pub second : Within n p.b
   pub rising : p.a < p.b

@@ -2,12 +2,10 @@
 //! two vertices separate it.
 ghost use Rattle.std.specs.Prelude.{◌≡◌, ◌↔◌, IfSome, IsTrue};
 ghost use Rattle.std.specs.Option.{option_map};
-ghost use Rattle.graph_core.specs.Common.{IsCovered, IsBipartite, IsBicritical, classes, cut_pair, equivalent_pair, IsWithinLimits};
-ghost use Rattle.separation_kit.specs.Pairs.{pair_value};
+ghost use Rattle.graph_core.specs.Common.{IsCovered, IsBipartite, IsBicritical, classes, cut_pair, equivalent_pair, IsWithinLimits, pair_of};
 
 use crate::critical::{cut_pair, equivalent_pair};
-use crate::pair::Pair;
-use graph_core::SetList;
+use graph_core::{Ends, SetList};
 use graph_facts::Covered;
 use std::marker::Model;
 
@@ -18,21 +16,20 @@ use std::marker::Model;
 pub struct FirstPairs<'c, 'g> {
     covered: &'c Covered<'g>,
     lent: Option<&'c SetList>,
-    equivalent: Option<Pair>,
-    cut: Option<Pair>,
+    equivalent: Option<Ends>,
+    cut: Option<Ends>,
 }
 
 impl<'c, 'g> Model for FirstPairs<'c, 'g> {
     ghost use Rattle.std.specs.Prelude.{◌≡◌, IfSome};
     ghost use Rattle.std.specs.Option.{option_map};
-    ghost use Rattle.graph_core.specs.Common.{Graph, IsBicritical, classes, cut_pair, equivalent_pair};
-    ghost use Rattle.separation_kit.specs.Pairs.{pair_value};
+    ghost use Rattle.graph_core.specs.Common.{Graph, IsBicritical, classes, cut_pair, equivalent_pair, pair_of};
 
     ghost Value = { Graph };
 
     ghost view = { λ p. p.covered.now };
 
-    ghost invariant = { λ p. (option_map pair_value p.equivalent ≡ equivalent_pair p.covered.now) × (IsBicritical p.covered.now → option_map pair_value p.cut ≡ cut_pair p.covered.now) × IfSome p.lent (λ list. list.now ≡ classes p.covered.now) };
+    ghost invariant = { λ p. (option_map pair_of p.equivalent ≡ equivalent_pair p.covered.now) × (IsBicritical p.covered.now → option_map pair_of p.cut ≡ cut_pair p.covered.now) × IfSome p.lent (λ list. list.now ≡ classes p.covered.now) };
 }
 
 impl<'c, 'g> FirstPairs<'c, 'g> {
@@ -100,8 +97,8 @@ impl<'c, 'g> FirstPairs<'c, 'g> {
 
     /// The first pair u < v such that G - u - v has no perfect matching; none if and only if the
     /// graph is bicritical.
-    pub fn equivalent(&self) -> Option<Pair>
-        ensures { option_map pair_value result ≡ equivalent_pair self.now }
+    pub fn equivalent(&self) -> Option<Ends>
+        ensures { option_map pair_of result ≡ equivalent_pair self.now }
     {
         self.equivalent
     }
@@ -117,17 +114,17 @@ impl<'c, 'g> FirstPairs<'c, 'g> {
     }
 
     /// The first cut pair of a bicritical graph.
-    pub fn cut(&self) -> Option<Pair>
+    pub fn cut(&self) -> Option<Ends>
         requires { IsBicritical self.now }
-        ensures { option_map pair_value result ≡ cut_pair self.now }
+        ensures { option_map pair_of result ≡ cut_pair self.now }
     {
         self.cut
     }
 
     /// The first cut pair, whether the graph is bicritical or not. It is searched for only if it is
     /// not known.
-    pub fn any_cut(&self) -> Option<Pair>
-        ensures { option_map pair_value result ≡ cut_pair self.now }
+    pub fn any_cut(&self) -> Option<Ends>
+        ensures { option_map pair_of result ≡ cut_pair self.now }
     {
         if self.is_bicritical() {
             return self.cut();
@@ -137,9 +134,9 @@ impl<'c, 'g> FirstPairs<'c, 'g> {
 }
 
 // The first cut pair of a graph that has no pair of equivalent vertices.
-fn cut_where_bicritical(c: &Covered, equivalent: Option<Pair>) -> Option<Pair>
-    requires { option_map pair_value equivalent ≡ equivalent_pair c.now }
-    ensures { IsBicritical c.now → option_map pair_value result ≡ cut_pair c.now }
+fn cut_where_bicritical(c: &Covered, equivalent: Option<Ends>) -> Option<Ends>
+    requires { option_map pair_of equivalent ≡ equivalent_pair c.now }
+    ensures { IsBicritical c.now → option_map pair_of result ≡ cut_pair c.now }
 {
     match equivalent {
         Some(_) => None,

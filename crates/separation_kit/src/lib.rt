@@ -19,11 +19,11 @@ mod dominators;
 mod first_pairs;
 mod flood;
 mod laws;
-mod pair;
+mod pairs;
 mod shores;
 
 pub use critical::{cut_pair, equivalent_pair, not_bicritical, parts_without};
 pub use first_pairs::FirstPairs;
 pub use laws::{brick_law, first_pairs_law, separation_cuts_law, separation_law};
-pub use pair::{Pair, all_pairs};
+pub use pairs::all_pairs;
 pub use shores::{first_separation_cut, separation_cuts};

@@ -2,14 +2,14 @@
 ghost use Rattle.std.specs.Prelude.{◌≡◌, ◌≤◌, fold, map, slice_get, All, IfOk, OnOk};
 ghost use Rattle.std.specs.Option.{option_map};
 ghost use Rattle.counting.specs.Common.{Within, singleton, union, mem, rising_list, IsRisingIn};
-ghost use Rattle.graph_core.specs.Common.{IsCovered, IsBicritical, cut_pair, with_cut};
-ghost use Rattle.separation_kit.specs.Common.{pair_value, separation_cuts, shores_at_pair};
+ghost use Rattle.graph_core.specs.Common.{IsCovered, IsBicritical, cut_pair, with_cut, pair_of};
+ghost use Rattle.separation_kit.specs.Common.{separation_cuts, shores_at_pair};
 
 use crate::critical::{is_cut_pair, parts_without};
 use crate::dominators::dominator_candidates;
 use crate::first_pairs::FirstPairs;
-use crate::pair::{Pair, all_pairs};
-use graph_core::{MultiGraph, SetList, add_cut};
+use crate::pairs::all_pairs;
+use graph_core::{Ends, MultiGraph, SetList, add_cut};
 use std::alloc::{AllocError as Memory, Global};
 use vset_core::{MOST_VERTICES, VSet};
 
@@ -46,12 +46,12 @@ fn add_pair_cuts(
     alloc: Global,
     g: &MultiGraph,
     cuts: &mut SetList,
-    pair: Pair,
+    pair: Ends,
 ) -> Result<(), Memory>
     requires first { Within g.now.order pair.a }
     requires second { Within g.now.order pair.b }
     ensures { OnOk result
-        (cuts.new ≡ fold (with_cut g.now.order) cuts.old (shores_at_pair g.now (pair_value pair))) }
+        (cuts.new ≡ fold (with_cut g.now.order) cuts.old (shores_at_pair g.now (pair_of pair))) }
 {
     g.keeps_limits();
     let parts = parts_without(alloc, g, pair.a, pair.b)?;
@@ -90,10 +90,10 @@ pub fn first_separation_cut(alloc: Global, pairs: &FirstPairs) -> Result<Option<
 }
 
 // The first cut that the first cut pair gives.
-fn first_cut_at(alloc: Global, g: &MultiGraph, pair: Option<Pair>) -> Result<Option<VSet>, Memory>
+fn first_cut_at(alloc: Global, g: &MultiGraph, pair: Option<Ends>) -> Result<Option<VSet>, Memory>
     requires bicritical { IsBicritical g.now }
     requires four { 4 ≤ g.now.order }
-    requires pair { option_map pair_value pair ≡ cut_pair g.now }
+    requires pair { option_map pair_of pair ≡ cut_pair g.now }
     ensures { IfOk result (λ cut. cut ≡ slice_get (separation_cuts g.now) 0) }
 {
     g.keeps_limits();

@@ -8,7 +8,7 @@ ghost use Rattle.match_core.specs.Common.{IsOf, edges_of};
 use super::made::{made, set_of};
 use gallai_edmonds::sets;
 use graph_core::{MultiGraph, Numbers};
-use match_core::{Matching, frame, maximum, perfect_with, perfect_without, repair};
+use match_core::{FrameSets, Matching, frame, maximum, perfect_with, perfect_without, repair};
 use plain_graph::{FLOWER, K4, PATH, PETERSEN, STAR, TRIANGLE, TWO_EDGES};
 use std::alloc::Global;
 use std::test::Fail;
@@ -64,9 +64,9 @@ static SETS: [(u32, &[(u32, u32)], &[u32], &[u32], &[u32]); 4] = [
 // Whether the frame of the graph has these sets.
 fn has_frame(alloc: Global, graph: &MultiGraph, wanted: [&[u32]; 3]) -> Result<bool, Fail> {
     let [outer, inner, berge] = wanted;
-    let sets = frame(alloc, graph)?;
+    let FrameSets { found, sets } = frame(alloc, graph)?;
     let is_split = sets.outer == set_of(outer) && sets.inner == set_of(inner);
-    Ok(is_split && sets.found.berge == set_of(berge))
+    Ok(is_split && found.berge == set_of(berge))
 }
 
 #[test]

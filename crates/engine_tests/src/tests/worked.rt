@@ -5,13 +5,13 @@ ghost use Rattle.graph_core.specs.Common.{IsBicritical};
 
 use super::made::{made, set_of};
 use barrier_kit::{barrier_cuts, classes, is_barrier};
-use graph_core::MultiGraph;
+use graph_core::{Ends, MultiGraph};
 use plain_graph::{
     CUBE, FOUR_CYCLE, HEXAGON, K4, K33, PETERSEN, PRISM, TRIANGLE_IN_K33, TWO_K4, is_bipartite,
     is_covered,
 };
 use quick_kinds::{quick_brace, quick_brick};
-use separation_kit::{Pair, cut_pair, first_pairs_law, not_bicritical, separation_cuts};
+use separation_kit::{cut_pair, first_pairs_law, not_bicritical, separation_cuts};
 use std::alloc::{AllocError as Memory, Global};
 use std::test::Fail;
 use vset_core::VSet;
@@ -129,18 +129,18 @@ fn knows_barriers(rt: HostRuntime) -> Result<(), Fail> {
     Ok(())
 }
 
-// A pair of vertices, if there is one.
-type Ends = Option<(u32, u32)>;
+// Two vertices, if there are such.
+type FoundPair = Option<(u32, u32)>;
 
 // A graph, its first pair that is not bicritical, and its first cut pair.
-static PAIRS: [(u32, &[(u32, u32)], Ends, Ends); 4] = [
+static PAIRS: [(u32, &[(u32, u32)], FoundPair, FoundPair); 4] = [
     (4, &K4, None, None),
     (8, &CUBE, Some((1, 3)), None),
     (8, &TRIANGLE_IN_K33, Some((4, 5)), None),
     (6, &TWO_K4, None, Some((1, 2))),
 ];
 
-fn ends_of(pair: Option<Pair>) -> Ends {
+fn found_pair(pair: Option<Ends>) -> FoundPair {
     match pair {
         Some(pair) => Some((pair.a, pair.b)),
         None => None,
@@ -151,8 +151,8 @@ fn ends_of(pair: Option<Pair>) -> Ends {
 fn finds_the_first_pairs(rt: HostRuntime) -> Result<(), Fail> {
     for (order, edges, equivalent, cut) in &PAIRS {
         let graph = made(rt.alloc(), *order, edges)?;
-        assert!(rt; ends_of(not_bicritical(rt.alloc(), &graph)?) == *equivalent);
-        assert!(rt; ends_of(cut_pair(&graph)) == *cut);
+        assert!(rt; found_pair(not_bicritical(rt.alloc(), &graph)?) == *equivalent);
+        assert!(rt; found_pair(cut_pair(&graph)) == *cut);
     }
     Ok(())
 }

@@ -1,12 +1,12 @@
 use Rattle.std.proofs.Common.{sym, ap, ◌∙◌, arith, option_map}
 use Rattle.barrier_kit.proofs.Common.{bicritical_no_cuts}
 use Rattle.separation_kit.proofs.SeparationFacts.{equivalent-none}
-use Rattle.separation_kit.specs.Common.{pair_value}
+use Rattle.graph_core.specs.Common.{pair_of}
 use Rattle.tight_cuts.proofs.FrontCandidates.{front-barriers, front-separations, order-small, equivalent-some}
 use Rattle.tight_cuts.proofs.front.first_front_candidate.Goals as goal
 
 pub first_separation_candidate-requires-clause-bicritical : goal.first_separation_candidate-requires-clause-bicritical
-first_separation_candidate-requires-clause-bicritical c = (equivalent-none c.args.pairs.now).0 (sym c.equivalent.ensures ∙ ap (option_map pair_value) c.in_default.is)
+first_separation_candidate-requires-clause-bicritical c = (equivalent-none c.args.pairs.now).0 (sym c.equivalent.ensures ∙ ap (option_map pair_of) c.in_default.is)
 
 pub returns : goal.returns
 returns c = grind (arith, front-separations, bicritical_no_cuts, equivalent-none)

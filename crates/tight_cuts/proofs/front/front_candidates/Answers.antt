@@ -1,19 +1,19 @@
 use Rattle.counting.proofs.Common.{◌≡◌, List, sym, subst, ap, ◌∙◌, arith, map, option_map, IfOk-weaker}
 use Rattle.barrier_kit.proofs.Common.{bicritical_no_cuts}
-use Rattle.graph_core.proofs.Common.{Graph, IsBicritical}
+use Rattle.graph_core.proofs.Common.{Graph, IsBicritical, pair_of}
 use Rattle.separation_kit.proofs.SeparationFacts.{equivalent-none}
-use Rattle.separation_kit.specs.Common.{pair_value, separation_cuts}
+use Rattle.separation_kit.specs.Common.{separation_cuts}
 use Rattle.tight_cuts.specs.Common.{Candidate, Separation, candidate_at, front_candidates}
 use Rattle.tight_cuts.proofs.FrontCandidates.{front-barriers, front-separations, order-small, equivalent-some}
 use Rattle.tight_cuts.proofs.front.front_candidates.Goals as goal
 
 pub separation_candidates-requires-clause-bicritical : goal.separation_candidates-requires-clause-bicritical
 separation_candidates-requires-clause-bicritical c =
-    subst (λ (g : Graph). IsBicritical g) (sym c.covered-2.ensures) ((equivalent-none c.args.pairs.now).0 (sym c.equivalent.ensures ∙ ap (option_map pair_value) c.in_default.is))
+    subst (λ (g : Graph). IsBicritical g) (sym c.covered-2.ensures) ((equivalent-none c.args.pairs.now).0 (sym c.equivalent.ensures ∙ ap (option_map pair_of) c.in_default.is))
 
 pub returns : goal.returns
 returns c = IfOk-weaker c.separation_candidates.result (λ (list : List Candidate). list ≡ map (candidate_at c.covered-2.result.now.order Separation) (separation_cuts c.covered-2.result.now)) (λ (list : List Candidate). list ≡ front_candidates c.args.pairs.now)
-    (λ list q. q ∙ ap (λ (g : Graph). map (candidate_at g.order Separation) (separation_cuts g)) c.covered-2.ensures ∙ front-separations c.args.pairs.now (bicritical_no_cuts c.args.pairs.now c.keeps_covered.ensures.limits.multigraph.ends c.keeps_covered.ensures.covered ((equivalent-none c.args.pairs.now).0 (sym c.equivalent.ensures ∙ ap (option_map pair_value) c.in_default.is))))
+    (λ list q. q ∙ ap (λ (g : Graph). map (candidate_at g.order Separation) (separation_cuts g)) c.covered-2.ensures ∙ front-separations c.args.pairs.now (bicritical_no_cuts c.args.pairs.now c.keeps_covered.ensures.limits.multigraph.ends c.keeps_covered.ensures.covered ((equivalent-none c.args.pairs.now).0 (sym c.equivalent.ensures ∙ ap (option_map pair_of) c.in_default.is))))
     c.separation_candidates.ensures
 
 pub returns-in-Some : goal.returns-in-Some

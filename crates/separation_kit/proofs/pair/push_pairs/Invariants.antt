@@ -1,9 +1,0 @@
-use Rattle.counting.proofs.Common.{◌≡◌, ◌++◌, ◌≤◌, map, nat_lt, pair_with, rising_list}
-use Rattle.separation_kit.specs.Common.{pair_value}
-use Rattle.separation_kit.proofs.pair.push_pairs.Given as goal
-
-abbrev pub invariant-loop-k : goal.invariant-loop-k
-invariant-loop-k l = record {
-  from : l.a ≤ l.k;
-  pairs : map pair_value l.pairs.items ≡ map pair_value l.initial.pairs.items ++ map (pair_with l.a) (rising_list l.k (nat_lt l.a));
-}
