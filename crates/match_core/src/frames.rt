@@ -41,11 +41,11 @@ pub fn maximum(alloc: Global, g: &MultiGraph) -> Result<Found, Memory>
 }
 
 /// A maximum matching of `g` with the Gallai-Edmonds sets, read off the last forest of the search
-/// (Lovász and Plummer, "Matching Theory", chapter 3). `outer` is D, the vertices that some maximum
-/// matching misses; it is the union of the odd components of G - `inner`. `inner` is A, the other
-/// vertices adjacent to D, and is the Berge set. Takes at most n/2 augmentations, each with at most
-/// n/2 shrinkings and a search after each; the list of edges is read only at the beginning and at
-/// the end. The only error is `Memory`.
+/// (Lovász and Plummer, "Matching Theory", chapter 3). The outer set is D, the vertices that some
+/// maximum matching misses; it is the union of the odd components of G - A. The inner set is A, the
+/// other vertices adjacent to D, and is the Berge set. Takes at most n/2 augmentations, each with
+/// at most n/2 shrinkings and a search after each; the list of edges is read only at the beginning
+/// and at the end. The only error is `Memory`.
 pub fn frame(alloc: Global, g: &MultiGraph) -> Result<FrameSets, Memory>
     ensures of { IfOk result (λ f. IsOf g.now f.found.matching) }
     ensures maximum { IfOk result (λ f. IsMaximum g.now none (mem (edges_of f.found.matching))) }
