@@ -106,10 +106,8 @@ fn place_behind(n: u32, tree: Tree, moves: &Moves, at: u32, node: u32) -> Option
         (made_by n (shape_of tree) (moves_of moves.now) at ≡ Some made) ×
         IsNodePlace made node result }
 {
-    match made_by(tree, n, moves, at) {
-        Some(made) => node_place(&made, node),
-        None => None,
-    }
+    let made = made_by(tree, n, moves, at)?;
+    node_place(&made, node)
 }
 
 // The line of a move whose result is not a derivation.

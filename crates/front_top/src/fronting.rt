@@ -17,9 +17,10 @@ fn message_on_answer(status: Status, is_quiet: bool, is_abandoned: bool) -> Mess
     ensures lost { status ≡ Status.WriteFault → is_abandoned ≡ false → is_quiet ≡ false →
         result ≡ Message.Lost }
 {
-    match status {
-        Status::WriteFault if !is_quiet && !is_abandoned => Message::Lost,
-        _ => Message::Nothing,
+    if matches!(status, Status::WriteFault) && !is_quiet && !is_abandoned {
+        Message::Lost
+    } else {
+        Message::Nothing
     }
 }
 

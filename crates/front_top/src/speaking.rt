@@ -45,10 +45,7 @@ fn line_kept<'a>(kept: Option<&'a [u8]>, line: u32) -> Option<&'a [u8]>
     ensures { option_map (λ text. text.now) result ≡
         kept_file_line (option_map (λ text. text.now) kept.entry) line }
 {
-    match kept {
-        Some(text) => line_at(text, line),
-        None => None,
-    }
+    line_at(kept?, line)
 }
 
 // Says of a bad file which it is, where it is outside its format and how, and the line.
@@ -100,10 +97,7 @@ fn say_unread_file<E: Sink>(
 fn file_in(command: Option<Command<'_>>, place: u32) -> Option<CommandFile<'_>>
     ensures { option_map file_seen result ≡ file_in (option_map asked command.entry) place }
 {
-    match command {
-        Some(command) => file_at(command, place),
-        None => None,
-    }
+    file_at(command?, place)
 }
 
 // Says of a stop of a command which file it is, and what is wrong with it.

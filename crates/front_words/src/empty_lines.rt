@@ -43,10 +43,7 @@ pub fn empty_line_in(file_kind: FileKind, beginning: Option<&[u8]>) -> Option<u3
     ensures { result ≡ empty_line_in file_kind (option_map (λ text. text.now) beginning.entry) }
 {
     match file_kind {
-        FileKind::Graph6 => match beginning {
-            Some(text) => empty_line(text),
-            None => None,
-        },
+        FileKind::Graph6 => empty_line(beginning?),
         FileKind::Graph | FileKind::Tree | FileKind::Picks | FileKind::Ears | FileKind::Moves =>
             None,
     }

@@ -19,9 +19,10 @@ fn message_on_answer<'a>(status: ListStatus, is_quiet: bool, is_abandoned: bool)
     ensures lost { status ≡ ListStatus.WriteFault → is_abandoned ≡ false → is_quiet ≡ false →
         result ≡ Message.Lost }
 {
-    match status {
-        ListStatus::WriteFault if !is_quiet && !is_abandoned => Message::Lost,
-        _ => Message::Nothing,
+    if matches!(status, ListStatus::WriteFault) && !is_quiet && !is_abandoned {
+        Message::Lost
+    } else {
+        Message::Nothing
     }
 }
 

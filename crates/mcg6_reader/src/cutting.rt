@@ -16,8 +16,6 @@ pub fn first_line(text: &[u8]) -> Option<(&[u8], &[u8])>
     ensures none { IfNone result (HasNoFeed text.now) }
     ensures line { IfSome result (λ found. IsFirstLine text.now found.0.now found.1.now) }
 {
-    match line_feed(text) {
-        None => None,
-        Some(end) => Some(text.split_at(end + 1)),
-    }
+    let end = line_feed(text)?;
+    Some(text.split_at(end + 1))
 }

@@ -12,26 +12,18 @@ use mcg6_lines::{Property, Query};
 fn bricks_property(word: &str) -> Option<Property>
     ensures { result ≡ bricks_property word.now }
 {
-    match word.as_bytes().strip_prefix(b"bricks=") {
-        Some(digits) => match number(digits) {
-            Some(count) => Some(Property::Bricks { count }),
-            None => None,
-        },
-        None => None,
-    }
+    let digits = word.as_bytes().strip_prefix(b"bricks=")?;
+    let count = number(digits)?;
+    Some(Property::Bricks { count })
 }
 
 // The property of so many braces that the word names, if it names one.
 fn braces_property(word: &str) -> Option<Property>
     ensures { result ≡ braces_property word.now }
 {
-    match word.as_bytes().strip_prefix(b"braces=") {
-        Some(digits) => match number(digits) {
-            Some(count) => Some(Property::Braces { count }),
-            None => None,
-        },
-        None => None,
-    }
+    let digits = word.as_bytes().strip_prefix(b"braces=")?;
+    let count = number(digits)?;
+    Some(Property::Braces { count })
 }
 
 // The property of so many bricks or braces that the word names, if it names one.
@@ -81,10 +73,8 @@ fn query_named(word: &str) -> Option<Query>
 fn leaves_named(word: &str) -> Option<Query>
     ensures { result ≡ leaves_named word.now }
 {
-    match NamedOrder::of_word(word) {
-        Some(order) => Some(Query::Leaves { order }),
-        None => None,
-    }
+    let order = NamedOrder::of_word(word)?;
+    Some(Query::Leaves { order })
 }
 
 // The query for the graphs with the property that the word names, if it names one.
@@ -92,10 +82,8 @@ fn leaves_named(word: &str) -> Option<Query>
 fn select_named(word: &str) -> Option<Query>
     ensures { result ≡ select_named word.now }
 {
-    match property_named(word) {
-        Some(property) => Some(Query::Select { property }),
-        None => None,
-    }
+    let property = property_named(word)?;
+    Some(Query::Select { property })
 }
 
 // The query that the two words ask for, if they ask for one.
@@ -189,10 +177,7 @@ fn with_first<'a>(word: &str, words: &'a [String]) -> Option<ListCommand<'a>>
     ensures { option_map list_asked result ≡
         command_if (query_named word.now) (map string_bytes words.now) }
 {
-    match query_named(word) {
-        Some(query) => with_words(query, words),
-        None => None,
-    }
+    with_words(query_named(word)?, words)
 }
 
 // The command of the first word and those after it: the second has more to say of the query, or
@@ -213,10 +198,8 @@ fn with_second<'a>(word: &str, words: &'a [String]) -> Option<ListCommand<'a>>
 fn list_command_of(words: &[String]) -> Option<ListCommand<'_>>
     ensures { option_map list_asked result ≡ list_command_of (map string_bytes words.now) }
 {
-    match words.split_first() {
-        None => None,
-        Some((word, others)) => with_second(word.as_str(), others),
-    }
+    let (word, others) = words.split_first()?;
+    with_second(word.as_str(), others)
 }
 
 // The file, where the word asks for its graph6 text.
@@ -247,9 +230,9 @@ pub fn command_of(words: &[String]) -> Option<Command<'_>>
 {
     match encode_of(words) {
         Some(file) => Some(Command::Encode { file }),
-        None => match list_command_of(words) {
-            Some(list) => Some(Command::Answer { list }),
-            None => None,
-        },
+        None => {
+            let list = list_command_of(words)?;
+            Some(Command::Answer { list })
+        }
     }
 }

@@ -73,10 +73,8 @@ pub fn run_to_ending<'a, S: Source, K: Sink>(
     ensures { ListRunsTo S.left S.faults S.reads K.written K.writes K.faults line.now result
         source.old source.new sink.old sink.new }
 {
-    match line.command() {
-        Some(command) => Some(perform(alloc, command, source, sink)),
-        None => None,
-    }
+    let command = line.command()?;
+    Some(perform(alloc, command, source, sink))
 }
 
 /// Does what the command line asks for: reads the list that is left of the source, and writes to

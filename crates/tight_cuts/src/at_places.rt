@@ -124,10 +124,7 @@ fn lifted_first(p: &Partition, found: Option<Candidate>) -> Option<Candidate>
     ensures { (g : Graph) → g.order ≡ p.now.order → option_map candidate_of result
         ≡ option_map (lifted_candidate g p.now.blocks) (option_map candidate_of found) }
 {
-    match found {
-        Some(candidate) => Some(lifted_one(p, candidate)),
-        None => None,
-    }
+    Some(lifted_one(p, found?))
 }
 
 // One candidate of the quotient at a partition, with the shore as vertices of the graph.

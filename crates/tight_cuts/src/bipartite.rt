@@ -84,10 +84,8 @@ fn shore_from(c: &Covered, digraph: &Digraph, e: u32, x: u32) -> Option<VSet>
         return None;
     }
     let shore = digraph.shore(c, a, b, x);
-    match first_lacking(shore, c.order(), b) {
-        Some(_) => Some(shore),
-        None => None,
-    }
+    first_lacking(shore, c.order(), b)?;
+    Some(shore)
 }
 
 // What the pairs give in order.

@@ -57,10 +57,7 @@ fn as_candidate(n: u32, origin: Origin, cut: Option<VSet>) -> Option<Candidate>
     requires rising { IfSome cut (IsRisingIn n) }
     ensures { option_map candidate_of result ≡ option_map (candidate_at n (origin_of origin)) cut }
 {
-    match cut {
-        Some(shore) => Some(Candidate::new(n, origin, shore)),
-        None => None,
-    }
+    Some(Candidate::new(n, origin, cut?))
 }
 
 // The first cut of a barrier. The classes are made only if they are not lent.
