@@ -97,9 +97,9 @@ unfolding bytes_of
 bytes_of-nil = refl
 
 -- the loop over bits that are turned into bytes, six by six
-pub packed_more : (bits rest six others : List Bool) (front more : List ℕ) (size digit : ℕ) → rest ≡ six ++ others → size ≡ 6 → length six ≡ min size (length rest) → 0 < length rest →
-    front ++ bytes_of rest ≡ bytes_of bits → digit ≡ digit_of_bits six → more ≡ front ++ byte_of digit ∷ [] → more ++ bytes_of others ≡ bytes_of bits
-packed_more bits rest six others front more size digit cut is_six least some inv d e =
+pub packed_more : (bits rest six others : List Bool) (before front more : List ℕ) (size digit : ℕ) → rest ≡ six ++ others → size ≡ 6 → length six ≡ min size (length rest) → 0 < length rest →
+    front ++ bytes_of rest ≡ before ++ bytes_of bits → digit ≡ digit_of_bits six → more ≡ front ++ byte_of digit ∷ [] → more ++ bytes_of others ≡ before ++ bytes_of bits
+packed_more bits rest six others before front more size digit cut is_six least some inv d e =
     let long : length rest ≡ length six + length others = ap length cut ∙ length-append six others in
     let first : take 6 rest ≡ six = elim (cases_lt (length rest) 6) [
       | inl l ↦ take_all 6 rest (omega arith) ∙ cut ∙ ap (λ (xs : List Bool). six ++ xs) (nil_from_length others (omega arith)) ∙ append-nil six
@@ -111,8 +111,8 @@ packed_more bits rest six others front more size digit cut is_six least some inv
     ] in
     grind (arith, bytes_of-step rest some, append_assoc front (byte_of digit ∷ []) (bytes_of others))
 
-pub packed_all : (bits rest : List Bool) (front : List ℕ) → length rest ≡ 0 → front ++ bytes_of rest ≡ bytes_of bits → front ≡ bytes_of bits
-packed_all bits rest front h inv = sym (append-nil front) ∙ ap (λ (xs : List ℕ). front ++ xs) (sym (ap bytes_of (nil_from_length rest h) ∙ bytes_of-nil)) ∙ inv
+pub packed_all : (bits rest : List Bool) (before front : List ℕ) → length rest ≡ 0 → front ++ bytes_of rest ≡ before ++ bytes_of bits → front ≡ before ++ bytes_of bits
+packed_all bits rest before front h inv = sym (append-nil front) ∙ ap (λ (xs : List ℕ). front ++ xs) (sym (ap bytes_of (nil_from_length rest h) ∙ bytes_of-nil)) ∙ inv
 
 -- six bits for each byte
 pub length-bits_of : (bytes : List ℕ) → length (bits_of bytes) ≡ 6 * length bytes

@@ -1,9 +1,9 @@
 //! Digits of six bits, and the bytes that write them.
-ghost use Rattle.std.specs.Prelude.{◌≡◌, ◌≤◌, ◌<◌, ◌*◌, length, slice_get, IfOk, IsTrue, Some};
+ghost use Rattle.std.specs.Prelude.{◌≡◌, ◌≤◌, ◌<◌, ◌*◌, ◌++◌, length, slice_get, OnOk, IsTrue, Some};
 ghost use Rattle.std.specs.List.{list_all};
 ghost use Rattle.graph6_text.specs.Common.{is_digit, digit_of_bits, bits_of, bytes_of};
 
-use std::alloc::{AllocError as Memory, Global};
+use std::alloc::AllocError as Memory;
 
 /// The byte that writes the digit 0.
 pub const ZERO: u8 = 63;
@@ -37,15 +37,14 @@ pub fn is_set(bytes: &[u8], k: usize) -> bool
     (digit >> (BITS - 1 - k % BITS)) % 2 == 1
 }
 
-/// The bytes that write these bits, six in each, the last padded with zeros.
-pub fn to_bytes(alloc: Global, bits: &[bool]) -> Result<Vec<u8>, Memory>
-    ensures { IfOk result (λ v. v.items ≡ bytes_of bits.now) }
+/// Appends the bytes that write these bits, six in each, the last padded with zeros.
+pub fn push_bytes(text: &mut Vec<u8>, bits: &[bool]) -> Result<(), Memory>
+    ensures { OnOk result (text.new.items ≡ text.old.items ++ bytes_of bits.now) }
 {
-    let mut bytes = Vec::new(alloc);
     for six in bits.chunks(BITS) {
-        bytes.push(to_digit(six) + ZERO)?;
+        text.push(to_digit(six) + ZERO)?;
     }
-    Ok(bytes)
+    Ok(())
 }
 
 /// The digit that begins with these bits, padded with zeros.

@@ -1,8 +1,8 @@
 //! Reading and writing graph6: a simple graph as one line of printable bytes.
 //!
 //! `read_graph6` returns the graph that a text stands for, or the line and the kind of its first
-//! error. `write_graph6` returns the text of a simple graph, and `bare_text` the same from a text
-//! that stands for it.
+//! error. `write_graph6` returns the text of a simple graph, `push_graph6` appends it, and
+//! `bare_text` returns the same from a text that stands for it.
 //!
 //! Main definitions: `outcome_of`, a table of eleven errors in their order and otherwise a graph
 //! (specs/Reading); `graph6_of`, the size and then one bit for each pair of vertices, column by
@@ -24,4 +24,4 @@ mod write;
 
 pub use laws::{canonical_law, read_back_law};
 pub use read::{bare_text, read_graph6};
-pub use write::write_graph6;
+pub use write::{push_graph6, write_graph6};

@@ -1,11 +1,11 @@
 //! Writing graph6 texts.
-ghost use Rattle.std.specs.Prelude.{◌≡◌, ◌<◌, ◌^◌, IfOk};
+ghost use Rattle.std.specs.Prelude.{◌≡◌, ◌<◌, ◌^◌, ◌++◌, IfOk, OnOk};
 ghost use Rattle.graph_core.specs.Common.{IsSimple};
 ghost use Rattle.graph6_text.specs.Common.{byte_of, size_of, adjacency_bits, graph6_of, ReadsBack};
 
 use crate::body::LONG;
 use crate::checks::MOST_SHORT;
-use crate::digits::{BASE, ZERO, to_bytes};
+use crate::digits::{BASE, ZERO, push_bytes};
 use crate::pairs::to_pairs;
 use graph_core::MultiGraph;
 use std::alloc::{AllocError as Memory, Global};
@@ -18,11 +18,22 @@ pub fn write_graph6(alloc: Global, g: &MultiGraph) -> Result<Vec<u8>, Memory>
     ensures text { IfOk result (λ text. text.items ≡ graph6_of g.now) }
     ensures reads_back { IfOk result (λ text. ReadsBack text.items g.now) }
 {
-    let bits = to_adjacency_bits(alloc, g)?;
-    let data = to_bytes(alloc, &bits)?;
-    let mut text = to_size(alloc, g.order())?;
-    text.extend_from_slice(&data)?;
+    g.keeps_limits();
+    let mut text = Vec::new(alloc);
+    push_graph6(alloc, &mut text, g)?;
     Ok(text)
+}
+
+/// Appends the text that `write_graph6` returns. Takes memory for it and for one bit per pair of
+/// vertices.
+#[tactic(auto, unfolding(crate::specs::Writing::graph6_of))]
+pub fn push_graph6(alloc: Global, text: &mut Vec<u8>, g: &MultiGraph) -> Result<(), Memory>
+    requires { IsSimple g.now }
+    ensures { OnOk result (text.new.items ≡ text.old.items ++ graph6_of g.now) }
+{
+    let bits = to_adjacency_bits(alloc, g)?;
+    push_size(text, g.order())?;
+    push_bytes(text, &bits)
 }
 
 /// One bit for each pair of vertices: whether an edge joins them.
@@ -37,19 +48,19 @@ fn to_adjacency_bits(alloc: Global, g: &MultiGraph) -> Result<Vec<bool>, Memory>
     Ok(bits)
 }
 
-/// The bytes that write the number of vertices.
+/// Appends the bytes that write the number of vertices.
 #[tactic(auto, unfolding(crate::specs::Writing::size_of))]
-fn to_size(alloc: Global, n: u32) -> Result<Vec<u8>, Memory>
+fn push_size(text: &mut Vec<u8>, n: u32) -> Result<(), Memory>
     requires { n < 2 ^ 18 }
-    ensures { IfOk result (λ size. size.items ≡ size_of n) }
+    ensures { OnOk result (text.new.items ≡ text.old.items ++ size_of n) }
 {
     if n <= MOST_SHORT {
-        return Vec::from_slice(alloc, &[to_byte(n)]);
+        return text.extend_from_slice(&[to_byte(n)]);
     }
     let high = to_byte(n / (BASE * BASE));
     let middle = to_byte(n / BASE % BASE);
     let low = to_byte(n % BASE);
-    Vec::from_slice(alloc, &[LONG, high, middle, low])
+    text.extend_from_slice(&[LONG, high, middle, low])
 }
 
 /// The byte that writes a digit.

@@ -29,14 +29,10 @@ component_edges g vs = rising_list (size g) (λ e. is_allowed g e && inside g (m
 unfoldable pub component_graph : Graph → List ℕ → Graph
 component_graph g vs = record { order = length vs; ends = map (λ e. (number_in vs (first_end g e), number_in vs (second_end g e))) (component_edges g vs) }
 
--- the end of a line: the vertices
-abbrev pub vertices_end : List ℕ → List ℕ
-vertices_end vs = numbers_text vs ++ codes "\n"
-
 -- the line of the component with the vertices vs: the number of the line in the list, the graph6
 -- text of the component, and its vertices in g
 abbrev pub component_line : ℕ → Graph → List ℕ → List ℕ
-component_line number g vs = decimal number ++ codes " " ++ graph6_of (component_graph g vs) ++ vertices_end vs
+component_line number g vs = decimal number ++ codes " " ++ graph6_of (component_graph g vs) ++ numbers_text vs ++ codes "\n"
 
 -- the lines of these components, in order
 abbrev pub component_lines : ℕ → Graph → List (List ℕ) → List ℕ

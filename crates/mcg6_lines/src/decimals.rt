@@ -1,11 +1,11 @@
 //! Numbers in decimal.
-ghost use Rattle.std.specs.Prelude.{◌≡◌, ◌++◌, OnOk};
+ghost use Rattle.std.specs.Prelude.{◌≡◌, ◌++◌, OnOk, codes};
 ghost use Rattle.std.specs.Fmt.{decimal};
 
 use std::alloc::AllocError as Memory;
 
 /// Appends a number in decimal, digit by digit: a formatter takes longer.
-pub fn push_decimal(text: &mut Vec<u8>, n: u32) -> Result<(), Memory>
+pub fn push_decimal(text: &mut Vec<u8>, n: u64) -> Result<(), Memory>
     ensures { OnOk result (text.new.items ≡ text.old.items ++ decimal n) }
 {
     if n >= 10 {
@@ -13,4 +13,12 @@ pub fn push_decimal(text: &mut Vec<u8>, n: u32) -> Result<(), Memory>
     }
     text.push(b'0' + (n % 10) as u8)?;
     Ok(())
+}
+
+/// Appends a space and a number in decimal.
+pub fn push_number(text: &mut Vec<u8>, n: u32) -> Result<(), Memory>
+    ensures { OnOk result (text.new.items ≡ text.old.items ++ codes " " ++ decimal n) }
+{
+    text.push(b' ')?;
+    push_decimal(text, u64::from(n))
 }

@@ -1,14 +1,15 @@
 //! The lines of `elementary`.
-ghost use Rattle.std.specs.Prelude.{◌≡◌, ◌≢◌, ◌≤◌, ◌<◌, ◌++◌, ◌&&◌, true, All, IfOk, OnOk, length, string_bytes};
+ghost use Rattle.std.specs.Prelude.{◌≡◌, ◌≢◌, ◌≤◌, ◌<◌, ◌++◌, ◌&&◌, true, All, IfOk, OnOk, length};
 ghost use Rattle.counting.specs.Common.{IsRisingIn, Within, mem, none};
 ghost use Rattle.graph_core.specs.Common.{IsSimple, size, with_edge};
 ghost use Rattle.match_core.specs.Common.{ArePartners};
 ghost use Rattle.report_text.specs.Common.{numbers_text};
-ghost use Rattle.mcg6_lines.specs.Elementary.{allowed_subgraph, component_graph, component_line, component_lines, elementary_lines, elementary_parts, number_in, vertices_end, with_allowed, with_inside};
+ghost use Rattle.mcg6_lines.specs.Elementary.{allowed_subgraph, component_graph, component_line, component_lines, elementary_lines, elementary_parts, number_in, with_allowed, with_inside};
 
+use crate::decimals::{push_decimal, push_number};
 use allowed_edges::{is_allowed_in, partners_where_perfect};
 use graph_core::{Ends, MultiGraph, SetList};
-use graph6_text::write_graph6;
+use graph6_text::push_graph6;
 use match_core::{PartnerTable, maximum};
 use std::alloc::{AllocError as Memory, Global};
 use vset_core::VSet;
@@ -125,32 +126,20 @@ fn push_component(
         (lines.new.items ≡ lines.old.items ++ component_line number g.now part) }
 {
     let component = component_graph(alloc, g, table, part)?;
-    let text = write_graph6(alloc, &component)?;
-    let front = format!(in alloc; "{number} ")?;
-    let end = vertices_end(alloc, part)?;
-    lines.extend_from_slice(front.as_bytes())?;
-    lines.extend_from_slice(&text)?;
-    lines.extend_from_slice(end.as_bytes())
-}
-
-// The end of a line: the vertices, each after a space, and the line feed.
-fn vertices_end(alloc: Global, part: VSet) -> Result<String, Memory>
-    ensures { IfOk result (λ end. string_bytes end ≡ vertices_end part) }
-{
-    let mut end = String::new(alloc);
-    push_vertices(&mut end, part)?;
-    write!(end, "\n")?;
-    Ok(end)
+    push_decimal(lines, number)?;
+    lines.extend_from_slice(b" ")?;
+    push_graph6(alloc, lines, &component)?;
+    push_vertices(lines, part)?;
+    lines.extend_from_slice(b"\n")
 }
 
 // Appends the vertices, each after a space, in increasing order.
-fn push_vertices(end: &mut String, part: VSet) -> Result<(), Memory>
-    ensures { OnOk result
-        (string_bytes end.new ≡ string_bytes end.old ++ numbers_text part) }
+fn push_vertices(lines: &mut Vec<u8>, part: VSet) -> Result<(), Memory>
+    ensures { OnOk result (lines.new.items ≡ lines.old.items ++ numbers_text part) }
 {
     let mut rest = part;
     'writing: while let Some((vertex, others)) = rest.split_first() {
-        write!(end, " {vertex}")?;
+        push_number(lines, vertex)?;
         rest = others;
     }
     Ok(())

@@ -1,11 +1,10 @@
 //! The line of `kinds`.
 ghost use Rattle.std.specs.Prelude.{◌≡◌, ◌++◌, ℕ, List, IfOk, Ok, OnOk, codes};
-ghost use Rattle.std.specs.Fmt.{decimal};
 ghost use Rattle.graph6_text.specs.Common.{outcome_of};
 ghost use Rattle.mcg6_lines.specs.KindLines.{IsKindLine, TellsStanding, standing_words};
 ghost use Rattle.mcg6_lines.specs.Standings.{Structured, Uncovered};
 
-use crate::decimals::push_decimal;
+use crate::decimals::push_number;
 use crate::standings::Standing;
 use graph_core::{Kind, MultiGraph, Reason};
 use graph6_text::bare_text;
@@ -83,12 +82,4 @@ fn push_word(line: &mut Vec<u8>, word: &str) -> Result<(), Memory>
 {
     line.push(b' ')?;
     line.extend_from_slice(word.as_bytes())
-}
-
-// Appends a space and a number.
-fn push_number(line: &mut Vec<u8>, n: u32) -> Result<(), Memory>
-    ensures { OnOk result (line.new.items ≡ line.old.items ++ codes " " ++ decimal n) }
-{
-    line.push(b' ')?;
-    push_decimal(line, n)
 }

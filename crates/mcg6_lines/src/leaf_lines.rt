@@ -5,10 +5,11 @@ ghost use Rattle.tree_core.specs.Common.{place_of};
 ghost use Rattle.graph6_text.specs.Common.{outcome_of};
 ghost use Rattle.mcg6_lines.specs.LeafLines.{AreLeafLines, AreLinesOf, TellsLeaves, leaf_end, leaf_line, line_front};
 
+use crate::decimals::push_decimal;
 use decomposer::{NamedOrder, decompose_places};
 use graph_core::MultiGraph;
 use graph_facts::Covered;
-use graph6_text::{bare_text, write_graph6};
+use graph6_text::{bare_text, push_graph6};
 use report_text::leaf_kind_word;
 use std::alloc::{AllocError as Memory, Global};
 use tree_core::{KnownPlace, LeafKind, kinds_at};
@@ -39,8 +40,9 @@ fn line_front(alloc: Global, number: u64, text: &[u8]) -> Result<Vec<u8>, Memory
     ensures { (g : _) → outcome_of text.now ≡ Ok g
         → IfOk result (λ front. front.items ≡ line_front number g) }
 {
-    let digits = format!(in alloc; "{number} ")?;
-    let mut front = Vec::from_slice(alloc, digits.as_bytes())?;
+    let mut front = Vec::new(alloc);
+    push_decimal(&mut front, number)?;
+    front.extend_from_slice(b" ")?;
     front.extend_from_slice(bare_text(text))?;
     front.extend_from_slice(b" ")?;
     Ok(front)
@@ -87,9 +89,8 @@ fn push_leaf(
         ++ leaf_line front.now leaf.now.graph leaf.now.blocks kind) }
 {
     let q = leaf.quotient(alloc)?;
-    let text = write_graph6(alloc, q.graph())?;
     lines.extend_from_slice(front)?;
-    lines.extend_from_slice(&text)?;
+    push_graph6(alloc, lines, q.graph())?;
     push_leaf_end(lines, kind)
 }
 
