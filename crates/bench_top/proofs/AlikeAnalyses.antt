@@ -52,9 +52,7 @@ front-once g is a b one two =
       bipartite = bipartite i;
       matching = matching i;
       deficiency = missed i;
-      d = in_d i;
-      a = in_a i;
-      c = in_c i;
+      sets = record { d = in_d i; a = in_a i; c = in_c i };
       allowed = allowed i;
     })
 
