@@ -21,7 +21,6 @@ pub(crate) struct Joins {
 impl Joins {
     /// The edges of `g`; of parallel edges the last.
     pub(crate) fn new(alloc: Global, g: &MultiGraph) -> Result<Joins, Memory> {
-        g.keeps_limits();
         let order = g.order();
         let mut row = vec![in alloc; 0; (order as usize + 1) * (order as usize + 1)]?;
         for k in 0..g.size() {
@@ -75,7 +74,6 @@ fn put_in(
     f: u32,
     with: u32,
 ) {
-    g.keeps_limits();
     let mut free = free_vertices(at, g, table, e, f, with);
     for k in 0..g.order() {
         if free.contains(k + 1) {
@@ -125,13 +123,11 @@ fn neighbours(rows: &[VSet], v: u32) -> VSet
 pub(crate) fn is_edge(g: &MultiGraph, k: u32) -> bool
     ensures { result ≡ true → Within (size g.now) k }
 {
-    g.keeps_limits();
     k != 0 && k <= g.size()
 }
 
 // The vertices at which an edge may be taken out.
 fn free_vertices(at: &[u32], g: &MultiGraph, table: &EdgeTable, e: u32, f: u32, with: u32) -> VSet {
-    g.keeps_limits();
     let mut free = VSet::empty();
     for k in 0..g.order() {
         let d = number_at(at, k as usize + 1);
@@ -149,7 +145,6 @@ fn has_both(table: &EdgeTable, e: u32, f: u32) -> bool {
 
 // For each vertex the edge of the matching at it.
 fn edges_at(alloc: Global, g: &MultiGraph, m: &Matching) -> Result<Vec<u32>, Memory> {
-    g.keeps_limits();
     let mut at = vec![in alloc; 0; g.order() as usize + 1]?;
     for i in 0..m.len() {
         let row = m.row(i);

@@ -208,7 +208,6 @@ fn settle_pair(
     ensures settled { IfOk result (λ _. SettlesPairs g.now e (f + 1) pairs.new) }
     ensures next { IfOk result (IsPerfectWith g.now e) }
 {
-    g.keeps_limits();
     if is_settled(g, pairs, e, f) {
         return Ok(kept);
     }
@@ -233,12 +232,10 @@ fn list_pair(
     ensures sought { IfOk result (λ _. Sought g.now e f pairs.old pairs.new) }
     ensures next { IfOk result (IsPerfectWith g.now e) }
 {
-    g.keeps_limits();
     match perfect_with_pair(alloc, g, &kept, e, f)? {
         None => Ok(kept),
         Some(found) => {
             let other = pairs.varied(alloc, g, found, e, f)?;
-            other.keeps_matching();
             listed(alloc, pairs, other)
         }
     }

@@ -25,7 +25,6 @@ pub fn completed(
     requires { IsMatchingOff g.now met m.now }
     ensures { IfOk result (λ o. (n : _) → o ≡ Some n → IsPerfectOffMet g.now met n) }
 {
-    g.keeps_limits();
     let missed = VSet::full(g.order()).minus(met).minus(met_vertices(m));
     let x = match missed.first() {
         Some(x) => x,
@@ -183,7 +182,6 @@ fn edge_between(g: &MultiGraph, x: u32, y: u32) -> Option<u32>
     requires second { Within MOST_VERTICES y }
     ensures { (k : ℕ) → result ≡ Some k → Within (size g.now) k }
 {
-    g.keeps_limits();
     if !neighbours(g, x).contains(y) {
         return None;
     }
