@@ -53,7 +53,6 @@ fn add_pair_cuts(
     ensures { OnOk result
         (cuts.new ≡ fold (with_cut g.now.order) cuts.old (shores_at_pair g.now (pair_of pair))) }
 {
-    g.keeps_limits();
     let parts = parts_without(alloc, g, pair.a, pair.b)?;
     add_with_vertex(cuts, g.order(), &parts, pair.a)?;
     Ok(())
@@ -68,7 +67,6 @@ pub fn separation_cuts(alloc: Global, g: &MultiGraph) -> Result<SetList, Memory>
     requires four { 4 ≤ g.now.order }
     ensures { IfOk result (λ cuts. cuts ≡ separation_cuts g.now) }
 {
-    g.keeps_limits();
     let sets = dominator_candidates(alloc, g)?;
     let pairs = all_pairs(alloc, g.order())?;
     let mut cuts = SetList::new(alloc);
