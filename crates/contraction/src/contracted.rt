@@ -103,7 +103,6 @@ impl Contracted {
         ensures value { result ≡ self.now.size }
         ensures few { result ≤ MOST_EDGES }
     {
-        self.keeps_contraction();
         self.size
     }
 }

@@ -133,7 +133,6 @@ impl Partition {
         ensures order { IfOk result (λ p. p.order ≡ self.now.order) }
         ensures blocks { IfOk result (λ p. p.blocks ≡ self.now.blocks) }
     {
-        self.keeps_partition();
         Ok(Partition {
             order: self.order,
             blocks: self.copy_blocks(alloc)?,

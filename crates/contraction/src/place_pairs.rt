@@ -43,7 +43,6 @@ pub(crate) fn ends_at(alloc: Global, edges: &[Ends], p: &Partition) -> Result<Ve
         (λ ends. graph_of (length p.now.blocks) ends.items ≡
         contracted (graph_of p.now.order edges.now) p.now.blocks) }
 {
-    p.keeps_partition();
     let places = places(alloc, p)?;
     let mut ends = Vec::with_capacity(alloc, edges.len())?;
     for edge in edges {

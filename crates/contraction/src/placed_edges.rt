@@ -37,7 +37,6 @@ impl PlacedEdges {
         requires { p.now.order ≡ g.now.order }
         ensures { IfOk result (λ e. e ≡ contracted g.now p.now.blocks) }
     {
-        g.keeps_limits();
         p.keeps_partition();
         let ends = ends_at(alloc, g.edges(), p)?;
         let order = p.len() as u32;
