@@ -39,7 +39,6 @@ impl<'g> KnownPlace<'g> {
     pub fn of(alloc: Global, place: Place<'g>) -> Result<KnownPlace<'g>, Memory>
         ensures { IfOk result (λ p. p ≡ place.entry) }
     {
-        place.keeps_place();
         if place.partition().len() == place.graph().order() as usize {
             return Ok(KnownPlace { place, below: None });
         }
@@ -134,7 +133,6 @@ impl<'g> KnownPlace<'g> {
     pub fn quotient(&self, alloc: Global) -> Result<Lent<'_>, Memory>
         ensures { IfOk result (λ q. graph_in q ≡ quotient self.now.graph self.now.blocks) }
     {
-        self.keeps_place();
         match self.below() {
             Some(q) => Ok(Lent::Of(q.graph())),
             None => {

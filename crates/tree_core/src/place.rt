@@ -88,7 +88,6 @@ impl<'g> Place<'g> {
     pub fn copy(&self, alloc: Global) -> Result<Place<'g>, Memory>
         ensures { IfOk result (λ p. p ≡ self.now) }
     {
-        self.keeps_place();
         let partition = self.partition.copy(alloc)?;
         Ok(Place {
             root: self.root,
@@ -121,7 +120,6 @@ impl<'g> Place<'g> {
         ensures single { IfSome result (λ _. length self.now.blocks ≡ self.now.graph.order) }
         ensures none { IfNone result (length self.now.blocks ≢ self.now.graph.order) }
     {
-        self.root.keeps_covered();
         if self.partition.len() == self.root.order() as usize {
             return Some(self.root);
         }
