@@ -41,7 +41,6 @@ pub fn asked_about(alloc: Global, g: &MultiGraph, mark: &[bool], met: VSet) -> R
     ensures stage { IfOk result
         (λ asked. asked.stage ≡ with_ends g.now (listed g.now (marks mark.now) (size g.now))) }
 {
-    g.keeps_limits();
     let stage = marked_graph(alloc, g, mark)?;
     let outside = VSet::full(g.order()).minus(met);
     Ok(Asked { stage, outside })

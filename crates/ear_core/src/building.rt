@@ -120,7 +120,6 @@ fn go_on(
         (count (size c.now) (complement (marks built.new.marked.mark.items)) + 1 ≤
         count (size c.now) (complement (marks built.old.marked.mark.items))) }
 {
-    c.keeps_covered();
     let g = c.graph();
     let met = built.marked.met;
     let mut stage = Stage::by(alloc, g, &built.marked.mark, met, kept)?;

@@ -34,7 +34,6 @@ pub fn check_ears_of(alloc: Global, c: &Covered, list: &EarList) -> Result<EarJu
     ensures accepted { IfOk result (λ j. AcceptsList c.now (ears_of list.now) (refusal_of j)) }
     ensures refused { IfOk result (λ j. RefusesList c.now (ears_of list.now) (refusal_of j)) }
 {
-    c.keeps_covered();
     check_list(alloc, c.graph(), true, list)
 }
 

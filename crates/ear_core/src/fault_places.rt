@@ -41,7 +41,6 @@ fn place_from(g: &MultiGraph, marked: &mut Marked, steps: &[Step], number: u32) 
     ensures { result ≡
         place_from g.now (marks marked.old.mark.items) (map step_of steps.now) number }
 {
-    g.keeps_limits();
     let mut left = number;
     let mut rest = steps;
     'steps: while let Some((step, others)) = rest.split_first() {

@@ -48,7 +48,6 @@ fn open_edges(
         (λ row. (e : ℕ) → Within (size g.now) e →
         marks row.items e ≡ is_open g.now (marks mark.now) u v e) }
 {
-    g.keeps_limits();
     let mut row = vec![in alloc; false; g.size() as usize + 1]?;
     for k in 0..g.size() {
         row[k as usize + 1] = is_open(g, mark, met, pair, k + 1);
@@ -79,7 +78,6 @@ fn edges_by_rank(
     ensures { IfOk result
         (λ es. es ≡ rising_list (size g.now) (by_rank (marks row.now) (mem (edges_of m.now)))) }
 {
-    g.keeps_limits();
     let mut edges = Numbers::new(alloc);
     let mut rank = 0;
     for k in 0..g.size() {
@@ -163,7 +161,6 @@ fn lone_by(
     ensures none { IfOk result
         (λ o. IfNone o ((m : Set) → LeadsAtTwo g.now (marks mark.now) m → ⊥)) }
 {
-    g.keeps_limits();
     for k in 0..g.order() {
         let u = k + 1;
         let row = lone_with(alloc, g, mark, stage, tables, u)?;

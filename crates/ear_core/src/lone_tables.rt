@@ -57,7 +57,6 @@ fn near_rows(alloc: Global, g: &MultiGraph, mark: &[bool]) -> Result<Vec<VSet>, 
     ensures each { IfOk result (λ rows. (u v : ℕ) → Within g.now.order u →
         mem (item rows.items u) v ≡ adjacent_by g.now (complement (marks mark.now)) u v) }
 {
-    g.keeps_limits();
     let mut rows = vec![in alloc; VSet::empty(); g.order() as usize]?;
     for k in 0..g.size() {
         join_off(&mut rows, mark[k as usize + 1], g.ends(k + 1));
@@ -129,7 +128,6 @@ fn reached_from(g: &MultiGraph, tables: &Tables, u: u32) -> VSet
     requires vertex { Within g.now.order u }
     ensures { (v : ℕ) → mem result v ≡ reached g.now tables.now u v }
 {
-    g.keeps_limits();
     let near = row_of(&tables.near, u);
     let far = partners_among(&tables.outer, g.order(), near);
     neighbours_of(&tables.near, g.order(), far).union(near)

@@ -25,7 +25,6 @@ impl Marked {
         ensures each { IfOk result
             (λ stage. (i : ℕ) → marks stage.mark.items i ≡ singleton e i) }
     {
-        g.keeps_limits();
         let mark = vec![in alloc; false; g.size() as usize + 1]?;
         let met = VSet::empty();
         let mut stage = Marked { mark, met };

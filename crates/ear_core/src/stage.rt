@@ -159,7 +159,6 @@ fn left_without(asked: &Asked, row: VSet) -> VSet
     ensures { (v : ℕ) → (mem result v ≡ true) ↔ (Within asked.now.stage.order v ×
         (mem asked.now.outside v ≡ false) × (mem row v ≡ false)) }
 {
-    asked.stage.keeps_limits();
     VSet::full(asked.stage.order()).minus(asked.outside.union(row))
 }
 

@@ -106,7 +106,6 @@ fn left_vertex(g: &MultiGraph, mark: &[bool], met: VSet, m: &Matching, used: VSe
         ((v : ℕ) → Within g.now.order v →
         is_left (mem met) (marks mark.now) (row_edge m.now.rows) (mem used) v ≡ false) }
 {
-    g.keeps_limits();
     for k in 0..g.order() {
         let v = k + 1;
         let out = mate_of(g, m, v);
