@@ -18,7 +18,6 @@ pub(crate) fn is_balanced(c: &Covered, shore: VSet) -> bool
     requires { IsRisingIn c.now.order shore }
     ensures { result ≡ true → CutIsTight c.now (mem shore) }
 {
-    c.keeps_covered();
     let Some(side) = c.side() else {
         return false;
     };

@@ -84,8 +84,10 @@ fn shore_from(c: &Covered, digraph: &Digraph, e: u32, x: u32) -> Option<VSet>
         return None;
     }
     let shore = digraph.shore(c, a, b, x);
-    first_lacking(shore, c.order(), b)?;
-    Some(shore)
+    match first_lacking(shore, c.order(), b) {
+        Some(_) => Some(shore),
+        None => None,
+    }
 }
 
 // What the pairs give in order.

@@ -40,7 +40,6 @@ impl Clusters {
         ensures graph { IfOk result (AreClusters g.now) }
         ensures places { (p : List (List ℕ)) → IfOk result (AreClustersAt g.now p) }
     {
-        g.keeps_limits();
         let sets = vec![in alloc; VSet::empty(); g.order() as usize]?;
         Ok(Clusters { sets })
     }
@@ -154,7 +153,6 @@ impl Clusters {
         requires set { IsOneSided g.now e (mem set) }
         ensures { IsOneSided g.now e (mem result) }
     {
-        g.keeps_limits();
         let mut wide = set;
         for k in 0..g.order() {
             if set.contains(k + 1) {

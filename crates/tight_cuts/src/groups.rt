@@ -73,7 +73,6 @@ fn network(
     ensures { IfOk result
         (λ net. net ≡ group_net g.now weights.now leaders.now groups.a groups.b groups.x groups.y) }
 {
-    g.keeps_limits();
     let mut net = Net::new(alloc, g.order())?;
     for k in 0..g.size() {
         let e = k + 1;
@@ -121,7 +120,6 @@ fn cut_of_groups(
         (IsCutOfGroups g.now weights.now.row.items leaders.now weights.now.matchings groups.a
         groups.b groups.x groups.y) }
 {
-    g.keeps_limits();
     let net = network(alloc, g, &weights.row, leaders, groups)?;
     match min_cut(alloc, &net, groups.a, groups.b, weights.matchings)? {
         CutAnswer::Cut { set, .. } => Ok(Some(vertices_of(set, leaders, g.order(), groups))),

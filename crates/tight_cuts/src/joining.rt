@@ -114,7 +114,6 @@ fn reach_of(
     requires near { IsOneSided g.now e (mem near) }
     ensures { IfOk result (λ reach. IsOneSided g.now e (mem reach)) }
 {
-    g.keeps_limits();
     let mut reach = near;
     let mut asked = VSet::empty();
     let mut idle = 0;
@@ -141,7 +140,6 @@ fn reach_of(
 fn next_vertex(g: &MultiGraph, reach: VSet, open: VSet, missing: VSet) -> Option<u32>
     ensures { IfSome result (λ u. Within g.now.order u × (mem reach u ≡ true)) }
 {
-    g.keeps_limits();
     let mut found = None;
     let mut most = 0;
     for k in 0..g.order() {

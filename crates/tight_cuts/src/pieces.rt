@@ -71,7 +71,6 @@ pub(crate) fn graph_beside(
     requires held { holds_both (edge_lists pairs.now) e e ≡ true }
     ensures { IfOk result (IsBeside g.now e) }
 {
-    g.keeps_limits();
     let mut beside = MultiGraph::new(alloc, g.order())?;
     for k in 0..g.size() {
         let f = k + 1;

@@ -48,7 +48,6 @@ pub(crate) fn is_uncrossed(
 fn is_odd_in(g: &MultiGraph, set: VSet) -> bool
     ensures { result ≡ is_odd (count g.now.order (mem set)) }
 {
-    g.keeps_limits();
     let inside = VSet::full(g.order()).meet(set);
     inside.rises();
     inside.len() % 2 == 1
@@ -113,7 +112,6 @@ fn has_later(g: &MultiGraph, set: VSet, u: u32) -> bool
     ensures { result ≡ false → (f v : ℕ) → Within (size g.now) f → u < v →
         Leaves g.now (mem set) v f → ⊥ }
 {
-    g.keeps_limits();
     for k in u..g.order() {
         if has_edge_out(g, set, k + 1) {
             return true;
@@ -166,7 +164,6 @@ fn turned(alloc: Global, g: &MultiGraph, set: VSet, u: u32, e: u32) -> Result<Mu
     requires edge { Within (size g.now) e }
     ensures { IfOk result (IsTurned g.now (mem set) u) }
 {
-    g.keeps_limits();
     let mut turned = MultiGraph::new(alloc, g.order())?;
     for k in 0..g.size() {
         turned.push_edge(turned_ends(g, set, u, e, k + 1))?;
@@ -183,7 +180,6 @@ fn turned_ends(g: &MultiGraph, set: VSet, u: u32, e: u32, d: u32) -> Ends
     ensures same { (IsEnd g.now d u → in_cut g.now (mem set) d ≡ true) →
         (result.a ≡ first_end g.now d) × (result.b ≡ second_end g.now d) }
 {
-    g.keeps_limits();
     let ends = g.ends(d);
     if (ends.a == u || ends.b == u) && !is_in_cut(g, set, d) {
         return g.ends(e);

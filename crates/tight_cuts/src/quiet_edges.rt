@@ -59,7 +59,6 @@ pub(crate) fn without_ends(g: &MultiGraph, e: u32) -> VSet
     ensures { (v : ℕ) → Within g.now.order v → first_end g.now e ≢ v → second_end g.now e ≢ v →
         mem result v ≡ true }
 {
-    g.keeps_limits();
     let ends = g.ends(e);
     let full = VSet::full(g.order());
     let rest = full.without(ends.a);

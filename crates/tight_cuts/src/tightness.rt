@@ -105,7 +105,6 @@ fn smaller_side(g: &MultiGraph, shore: VSet) -> VSet
     ensures { (e : ℕ) → Within (size g.now) e →
         in_cut g.now (mem result) e ≡ in_cut g.now (mem shore) e }
 {
-    g.keeps_limits();
     if shore.len() <= g.order() / 2 {
         return shore;
     }
@@ -220,7 +219,6 @@ fn crossing_by(
         (λ o. o ≡ None → in_cut g.now (mem shore) f ≡ true → Together g.now e f → ⊥) }
     ensures same { rows.new ≡ rows.old }
 {
-    g.keeps_limits();
     if !is_to_ask(g, shore, e, f) {
         return Ok(None);
     }
