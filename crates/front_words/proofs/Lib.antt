@@ -4,4 +4,3 @@ pub mod ShownBytes
 pub mod SaidPieces
 pub mod OtherShores
 pub mod OpeningNotes
-pub mod AnswersSaid

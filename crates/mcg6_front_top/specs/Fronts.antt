@@ -10,8 +10,9 @@ use Rattle.front_words.specs.declared.programs.Program.TheVariants.{Mcg6}
 use Rattle.mcg6_front_top.specs.declared.ending.Message.{Message}
 use Rattle.mcg6_front_top.specs.declared.ending.Message.TheVariants as message
 
--- what is to be said of a run of these words is what its end means, of which the status is. The bad
--- lines that are named are those that were skipped, and the one at which the list ended
+-- what is to be said of a run of these words is what its end means, and the status is that of the
+-- end. The bad lines that are named are those that were skipped, and the one at which the list
+-- ended
 pub record Speaks {S K : Type 0} (left : S → Option (List ℕ)) (faults : S → ℕ) (reads : S → Option (List ℕ) → S → Type 0)
     (written : K → Option (List ℕ)) (writes : K → List ℕ → ℕ → K → Type 0) (sink_faults : K → ℕ) (words : List (List ℕ)) (ended : ListStatus) (said : Message)
     (first last : S) (before now : K) : Type 0 where

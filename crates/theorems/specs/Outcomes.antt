@@ -114,8 +114,7 @@ pub record IsFileGraph (named : NamedGraph) : Type 0 where
   pub limits : IsWithinLimits named.graph
   pub names : ForSome named.names (λ names. AreNames names × (length names ≡ named.graph.order))
 
--- the bytes stand for a graph, in either version of the graph format; for a tree of cuts of a graph
--- of order n; and a file of these bytes holds this list of picks
+-- the bytes stand for a graph, in either version of the graph format
 abbrev pub StandsForGraph : List ℕ → NamedGraph → Type 0
 StandsForGraph text named = Stands either_version text named
 
