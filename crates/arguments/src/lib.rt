@@ -8,8 +8,10 @@
 //! Depends on no crate of the repository.
 #![tactic(auto)]
 
+mod asked;
 mod reading;
 mod refusal;
 
-pub use reading::read_arguments;
+pub use asked::Asked;
+pub use reading::{Arguments, read_arguments};
 pub use refusal::Refusal;

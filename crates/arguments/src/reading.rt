@@ -1,7 +1,9 @@
 //! Reading the arguments.
-ghost use Rattle.std.specs.Prelude.{◌≡◌, IfErr, IfOk, string_bytes};
+ghost use Rattle.std.specs.Prelude.{◌≡◌, ◌∷◌, ◌++◌, ◌+◌, [], IfErr, IfOk, IfSome, length, map, string_bytes};
+ghost use Rattle.std.specs.declared.option.Option.TheVariants.{None};
 ghost use Rattle.arguments.specs.declared.refusal.Refusal.TheVariants.{NotText};
 
+use crate::Asked;
 use crate::refusal::Refusal;
 use std::alloc::{AllocError as Memory, Global};
 use std::env::FillError;
@@ -27,6 +29,25 @@ fn bytes_at<E: Env>(env: &E, alloc: Global, place: usize) -> Result<Option<Vec<u
     Err(Memory)
 }
 
+// The argument at the next place, if there is one: it is noted.
+fn ask_at<E: Env>(
+    env: &E,
+    alloc: Global,
+    asked: &mut Asked,
+    place: usize,
+) -> Result<Option<Vec<u8>>, Memory>
+    requires { place ≡ length asked.old.words + 1 }
+    ensures given { IfOk result (λ found. IfSome found
+        (λ bytes. asked.new.words ≡ asked.old.words ++ bytes.items ∷ [])) }
+    ensures none { IfOk result (λ found. found ≡ None → asked.new.words ≡ asked.old.words) }
+{
+    let found = bytes_at(env, alloc, place)?;
+    if let Some(bytes) = &found {
+        asked.note_at(place, bytes);
+    }
+    Ok(found)
+}
+
 // The argument at that place, with these bytes, as a text.
 fn text_of(place: usize, bytes: Vec<u8>) -> Result<String, Refusal>
     ensures text { IfOk result (λ text. string_bytes text ≡ bytes.items) }
@@ -41,17 +62,32 @@ fn text_of(place: usize, bytes: Vec<u8>) -> Result<String, Refusal>
     }
 }
 
-/// The arguments, without the name of the program.
-pub fn read_arguments<E: Env>(env: &E, alloc: Global) -> Result<Vec<String>, Refusal> {
+/// The arguments, without the name of the program, with what the runtime gave.
+#[derive(Drop)]
+pub struct Arguments {
+    /// The words.
+    pub words: Vec<String>,
+    /// What the runtime gave, place by place.
+    pub asked: Asked,
+}
+
+/// The arguments, without the name of the program: all that the runtime gave, from place 1 on, in
+/// order. That a call of the runtime gives the argument at the place that it is asked for is the
+/// runtime's to keep, and no clause says that the last one was asked for.
+pub fn read_arguments<E: Env>(env: &E, alloc: Global) -> Result<Arguments, Refusal>
+    ensures all { IfOk result
+        (λ read. map string_bytes read.words.items ≡ read.asked.words) }
+{
     let mut words = Vec::new(alloc);
-    for place in 1..usize::MAX {
-        let Some(bytes) = bytes_at(env, alloc, place)? else {
-            return Ok(words);
+    let mut asked = Asked::new();
+    'asking: for place in 1..usize::MAX {
+        let Some(bytes) = ask_at(env, alloc, &mut asked, place)? else {
+            return Ok(Arguments { words, asked });
         };
         let word = text_of(place, bytes)?;
         if words.push(word).is_err() {
             return Err(Refusal::Memory);
         }
     }
-    Ok(words)
+    Ok(Arguments { words, asked })
 }

@@ -22,3 +22,5 @@ pub mod WritesMade
 pub mod GivenFiles
 pub mod RefusalsReported
 pub mod Performed
+pub mod PlacedFiles
+pub mod Reported

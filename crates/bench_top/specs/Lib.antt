@@ -5,3 +5,4 @@ pub mod RoundTrips
 pub mod Writes
 pub mod Given
 pub mod Runs
+pub mod Installed

@@ -17,6 +17,7 @@
 
 mod ending;
 mod in_memory;
+mod installed;
 pub mod laws;
 mod performing;
 mod running;
@@ -25,4 +26,5 @@ pub mod written_back;
 pub use bench_outcomes::Status;
 pub use ending::RunEnding;
 pub use in_memory::run_in_memory;
+pub use installed::{Ended, program};
 pub use running::{run, run_ending};

@@ -1,2 +1,4 @@
 pub mod EachRun
 pub mod TableRows
+pub mod Reported
+pub mod SaidWhole

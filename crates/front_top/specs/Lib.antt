@@ -3,3 +3,4 @@ pub mod Words
 pub mod CluesSeen
 pub mod Fronts
 pub mod Sizing
+pub mod Installed

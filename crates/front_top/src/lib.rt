@@ -17,11 +17,13 @@
 
 mod ending;
 mod fronting;
+mod installed;
 mod laws;
 mod sizing;
 mod speaking;
 
 pub use ending::{FrontEnding, Message};
 pub use fronting::run_front;
-pub use laws::table_law;
+pub use installed::{Ended, program};
+pub use laws::{said_law, table_law};
 pub use sizing::{Sizing, SizingShelf};

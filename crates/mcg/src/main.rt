@@ -6,18 +6,9 @@
 //! for lack of memory, and 7, which no status has, for a word that is not UTF-8.
 #![tactic(auto)]
 
-use arguments::read_arguments;
-use bench_top::run;
-use outside::{DirShelf, OutSink};
+use bench_top::program;
 use std::process::ExitCode;
 
 fn main(rt: HostRuntime) -> ExitCode {
-    match read_arguments(&rt, rt.alloc()) {
-        Ok(words) => {
-            let mut shelf = DirShelf::new(&rt);
-            let mut sink = OutSink::new(&rt);
-            ExitCode::from(run(rt.alloc(), &words, &mut shelf, &mut sink).code())
-        }
-        Err(refusal) => ExitCode::from(refusal.code()),
-    }
+    ExitCode::from(program(&rt, rt.alloc()).code)
 }

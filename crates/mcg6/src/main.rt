@@ -14,11 +14,11 @@ use std::fs;
 use std::process::ExitCode;
 
 fn main(rt: HostRuntime) -> ExitCode {
-    let words = match read_arguments(&rt, rt.alloc()) {
-        Ok(words) => words,
+    let read = match read_arguments(&rt, rt.alloc()) {
+        Ok(read) => read,
         Err(refusal) => return ExitCode::from(refusal.code()),
     };
-    let line = CommandLine::of(&words);
+    let line = CommandLine::of(&read.words);
     let mut sink = OutSink::new(&rt);
     let status = match line.file() {
         Some(name) => {

@@ -59,8 +59,8 @@ fn main(rt: HostRuntime) -> ExitCode {
     let stream = rt.stderr();
     let mut errors = LineSink::new(&stream);
     let quiet = is_quiet(&rt);
-    let words = match read_arguments(&rt, rt.alloc()) {
-        Ok(words) => words,
+    let read = match read_arguments(&rt, rt.alloc()) {
+        Ok(read) => read,
         Err(refusal) => {
             if !quiet {
                 let _ = say_unread_arguments(&mut errors, "mcg6", &refusal);
@@ -68,7 +68,7 @@ fn main(rt: HostRuntime) -> ExitCode {
             return ExitCode::from(refusal.code());
         }
     };
-    let line = CommandLine::of(&words);
+    let line = CommandLine::of(&read.words);
     let ending = match line.file() {
         Some(name) => run_file(&rt, &line, name, quiet),
         None => {

@@ -9,29 +9,10 @@
 //! is then shown.
 #![tactic(auto)]
 
-use arguments::read_arguments;
-use front_top::{SizingShelf, run_front};
-use front_words::{is_quiet, say_unread_arguments};
-use outside::{DirShelf, KeepingShelf, LineSink, OutSink};
+use front_top::program;
 use std::process::ExitCode;
 
 fn main(rt: HostRuntime) -> ExitCode {
     let stream = rt.stderr();
-    let mut errors = LineSink::new(&stream);
-    let quiet = is_quiet(&rt);
-    match read_arguments(&rt, rt.alloc()) {
-        Ok(words) => {
-            let shelf = SizingShelf::new(KeepingShelf::new(DirShelf::new(&rt)));
-            let mut sink = OutSink::new(&rt);
-            let ending = run_front(rt.alloc(), &words, quiet, shelf, &mut sink);
-            ending.say(&mut errors);
-            ExitCode::from(ending.status.code())
-        }
-        Err(refusal) => {
-            if !quiet {
-                let _ = say_unread_arguments(&mut errors, "mcg", &refusal);
-            }
-            ExitCode::from(refusal.code())
-        }
-    }
+    ExitCode::from(program(&rt, &stream).code)
 }

@@ -33,3 +33,7 @@ appended_more told mid now bytes n m first second =
     then
     ∙ ap (λ (o : Option (List ℕ)). appended o (take m (drop n bytes))) first
     ∙ appended-take told bytes n m
+
+-- the same of lists
+pub joined_more : (old bytes : List ℕ) (n m : ℕ) → (old ++ take n bytes) ++ take m (take (length bytes - n) (drop n bytes)) ≡ old ++ take (n + m) bytes
+joined_more old bytes n m = let same = appended_more (Some old) (Some (old ++ take n bytes)) (Some ((old ++ take n bytes) ++ take m (take (length bytes - n) (drop n bytes)))) bytes n m refl refl in cc same

@@ -9,5 +9,8 @@ pub use Rattle.outside.specs.MemShelf.{ShelfState, FailsNext, MayTakeBytes, MayA
 pub use Rattle.outside.specs.MemSink.{SinkState, share, IsWrite}
 pub use Rattle.outside.specs.MemSource.{SourceState, size_for, portion, bytes_given, IsGiven}
 pub use Rattle.outside.specs.StoredFile.{named_files}
-pub use Rattle.outside.specs.DirShelf.{OpenState, IsOpened}
-pub use Rattle.outside.specs.OutSink.{PrintState}
+pub use Rattle.outside.specs.DirShelf.{OpenState, IsOpened, given_after}
+pub use Rattle.outside.specs.OutSink.{PrintState, HasPrinted}
+pub use Rattle.outside.specs.Noting.{NotesFiles, named_texts, keeping-notes}
+pub use Rattle.outside.specs.InSource.{ReadState, read_after, HasTaken}
+pub use Rattle.outside.specs.LineSink.{LineState, HasBegun, HasSaid}

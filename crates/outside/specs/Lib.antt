@@ -3,6 +3,7 @@ pub mod Limits
 pub mod Shelf
 pub mod Sink
 pub mod Keeping
+pub mod Noting
 pub mod Source
 pub mod MemShelf
 pub mod MemSink
@@ -10,4 +11,6 @@ pub mod MemSource
 pub mod StoredFile
 pub mod DirShelf
 pub mod OutSink
+pub mod InSource
+pub mod LineSink
 pub mod Common

@@ -1,57 +1,67 @@
 //! A source that is a reader of a runtime.
-ghost use Rattle.std.specs.Prelude.{◌≡◌, ◌≤◌, IfOk, OnOk, OnErr, length};
+ghost use Rattle.std.specs.Prelude.{◌≡◌, ◌≤◌, ◌++◌, [], IfOk, OnOk, OnErr, length, take};
 ghost use Rattle.std.specs.declared.option.Option.TheVariants.{None};
 ghost use Rattle.outside.specs.Faults.{next_fault, MayCount};
+ghost use Rattle.outside.specs.InSource.{HasTaken};
 
-use crate::retries::read_some;
-use crate::{Source, SourceFailed};
+use crate::{Printed, Source, SourceFailed};
 use std::io::Read;
 use std::marker::Model;
 
 /// A source over a reader of the runtime, such as its standard input or a file that it opened. It
-/// is the trusted edge: it makes no content known.
+/// is the trusted edge: it notes the bytes that the reader gave, beside the call, and makes none
+/// known before it is read.
 ///
-/// A contract sees it as the count of errors, which saturates at the largest u64.
+/// A contract sees it as a `ReadState`: these bytes, and the count of errors, which saturates at the
+/// largest u64.
 #[derive(Drop)]
 pub struct InSource<R: Read + Drop> {
     reader: Option<R>,
+    read: Printed,
     faults: u64,
 }
 
 impl<R: Read + Drop> Model for InSource<R> {
-    ghost use Rattle.std.specs.Prelude.{ℕ};
+    ghost use Rattle.outside.specs.InSource.{ReadState};
 
-    ghost Value = { ℕ };
+    ghost Value = { ReadState };
 
-    ghost view = { λ source. source.faults };
+    ghost view = { λ source. record { read = source.read.bytes; faults = source.faults } };
 }
 
 impl<R: Read + Drop> InSource<R> {
     /// The source over this reader. Without a reader, for example if a file was not opened, each
     /// read fails. Takes no memory.
     pub fn new(reader: Option<R>) -> InSource<R>
-        ensures { result ≡ 0 }
+        ensures { result ≡ record { read = []; faults = 0 } }
     {
-        InSource { reader, faults: 0 }
+        InSource {
+            reader,
+            read: Printed::new(),
+            faults: 0,
+        }
     }
 }
 
 impl<R: Read + Drop> Source for InSource<R> {
     ghost left = { λ source. None };
 
-    ghost faults = { λ source. source };
+    ghost faults = { λ source. source.faults };
 
-    ghost reads = { λ before _ now. MayCount before now };
+    ghost reads = { HasTaken };
 
     /// An error of the runtime is `SourceFailed`.
     fn read(&mut self, piece: &mut [u8]) -> Result<usize, SourceFailed>
         ensures within { IfOk result (λ count. count ≤ length piece.old) }
-        ensures later { self.old ≤ self.new }
-        ensures ok { OnOk result (self.new ≡ self.old) }
-        ensures err { OnErr result (self.new ≡ next_fault self.old) }
+        ensures read { IfOk result
+            (λ count. self.new.read ≡ self.old.read ++ take count piece.new) }
+        ensures unread { OnErr result (self.new.read ≡ self.old.read) }
+        ensures later { self.old.faults ≤ self.new.faults }
+        ensures ok { OnOk result (self.new.faults ≡ self.old.faults) }
+        ensures err { OnErr result (self.new.faults ≡ next_fault self.old.faults) }
     {
         if let Some(reader) = &mut self.reader
-            && let Ok(count) = read_some(reader, piece)
+            && let Ok(count) = self.read.read(reader, piece)
         {
             return Ok(count);
         }

@@ -4,9 +4,10 @@ ghost use Rattle.std.specs.declared.option.Option.TheVariants.{None, Some};
 ghost use Rattle.std.specs.Option.{option_map};
 ghost use Rattle.outside.specs.Faults.{Rose};
 ghost use Rattle.outside.specs.Keeping.{KeepsRead, bytes_kept};
+ghost use Rattle.outside.specs.Noting.{keeping-notes};
 ghost use Rattle.outside.specs.Shelf.{IsLonger, TellsFile, answer_seen};
 
-use crate::{Explain, FailureReason, Shelf, ShelfFault};
+use crate::{Explain, FailureReason, Noting, Shelf, ShelfFault};
 use std::alloc::Global;
 
 /// A shelf that keeps what it last read.
@@ -115,4 +116,12 @@ impl<S: Explain + Drop> Keeping for KeepingShelf<S> {
     }
 
     ghost kept_is = { λ before name answer now read. read.is_file };
+}
+
+impl<S: Noting + Drop> Noting for KeepingShelf<S> {
+    ghost given = { λ shelf. S.given shelf.shelf };
+
+    ghost notes = { λ before name bytes now read.
+        keeping-notes S.files S.reads S.given S.notes before.shelf name bytes now.shelf
+        (bytes_kept now.kept) read };
 }

@@ -1,10 +1,10 @@
 //! A sink for messages, which are written line by line.
-ghost use Rattle.std.specs.Prelude.{◌≡◌, ◌≤◌, ◌<◌, IfOk, OnErr, length};
+ghost use Rattle.std.specs.Prelude.{◌≡◌, ◌≤◌, ◌<◌, ◌++◌, [], Contains, IfOk, OnErr, length, take};
 ghost use Rattle.std.specs.declared.option.Option.TheVariants.{None};
 ghost use Rattle.outside.specs.Faults.{Rose, MayCount};
+ghost use Rattle.outside.specs.LineSink.{HasBegun, HasSaid};
 
-use crate::retries::write_whole;
-use crate::{Sink, SinkFailed};
+use crate::{Printed, Sink, SinkFailed};
 use std::io;
 use std::marker::Model;
 
@@ -12,26 +12,32 @@ use std::marker::Model;
 const ROOM: usize = 512;
 
 /// A stream of a runtime, such as its standard error, to which lines are written whole. It is the
-/// trusted edge: it makes no content known.
+/// trusted edge: it notes the bytes that the stream took, beside the call.
 ///
 /// Bytes are held until a line feed comes or 512 bytes are held, and are then written by one call,
 /// so that lines of several programs do not mix; more calls follow only if that one took a part.
-/// Bytes after the last line feed stay held. A contract sees the sink as the count of errors, which
-/// saturates at the largest u64.
+/// Bytes after the last line feed stay held. A contract sees the sink as a `LineState`: the bytes that
+/// the stream took, those that are held, and the count of errors, which saturates at the largest u64.
 #[derive(Drop)]
 pub struct LineSink<'a, P: Print> {
     stream: &'a P,
+    printed: Printed,
     line: [u8; ROOM],
     held: usize,
     faults: u64,
 }
 
 impl<'a, P: Print> Model for LineSink<'a, P> {
-    ghost use Rattle.std.specs.Prelude.{ℕ, ◌<◌};
+    ghost use Rattle.std.specs.Prelude.{◌<◌, take};
+    ghost use Rattle.outside.specs.LineSink.{LineState};
 
-    ghost Value = { ℕ };
+    ghost Value = { LineState };
 
-    ghost view = { λ sink. sink.faults };
+    ghost view = { λ sink. record {
+      printed = sink.printed.bytes;
+      held = take sink.held sink.line;
+      faults = sink.faults;
+    } };
 
     ghost invariant = { λ sink. sink.held < 512 };
 }
@@ -39,10 +45,11 @@ impl<'a, P: Print> Model for LineSink<'a, P> {
 impl<'a, P: Print> LineSink<'a, P> {
     /// The sink over that stream of a runtime, such as `rt.stderr()`. Takes no memory.
     pub fn new(stream: &'a P) -> LineSink<'a, P>
-        ensures { result ≡ 0 }
+        ensures { result ≡ record { printed = []; held = []; faults = 0 } }
     {
         LineSink {
             stream,
+            printed: Printed::new(),
             line: [0; ROOM],
             held: 0,
             faults: 0,
@@ -53,19 +60,26 @@ impl<'a, P: Print> LineSink<'a, P> {
 impl<P: Print> Sink for LineSink<'_, P> {
     ghost written = { λ sink. None };
 
-    ghost faults = { λ sink. sink };
+    ghost faults = { λ sink. sink.faults };
 
-    ghost writes = { λ before _ _ now. MayCount before now };
+    ghost writes = { HasSaid };
 
     /// It takes as many bytes as have room. An error of the runtime is `SinkFailed`, and the held
     /// bytes are lost.
     fn write(&mut self, bytes: &[u8]) -> Result<usize, SinkFailed>
         ensures within { IfOk result (λ count. count ≤ length bytes.now) }
-        ensures later { self.old ≤ self.new }
-        ensures counts { MayCount self.old self.new }
-        ensures rose { OnErr result (Rose self.old self.new) }
+        // No byte is left out, and none but of these: what was printed, and what is held.
+        ensures passed { IfOk result (λ count. self.new.printed ++ self.new.held
+            ≡ (self.old.printed ++ self.old.held) ++ take count bytes.now) }
+        ensures begun { HasBegun self.old.printed self.new.printed (self.old.held ++ bytes.now) }
+        // A line that ends is not held.
+        ensures line { IfOk result
+            (λ count. Contains (take count bytes.now) 10 → self.new.held ≡ []) }
+        ensures later { self.old.faults ≤ self.new.faults }
+        ensures counts { MayCount self.old.faults self.new.faults }
+        ensures rose { OnErr result (Rose self.old.faults self.new.faults) }
         ensures stuck { IfOk result
-            (λ count. count ≡ 0 → 0 < length bytes.now → Rose self.old self.new) }
+            (λ count. count ≡ 0 → 0 < length bytes.now → Rose self.old.faults self.new.faults) }
     {
         let count = bytes.len().min(ROOM - self.held);
         let end = self.held + count;
@@ -75,7 +89,10 @@ impl<P: Print> Sink for LineSink<'_, P> {
             return Ok(count);
         }
         self.held = 0;
-        match write_whole(&mut io::writer(self.stream), &self.line[..end]) {
+        match self
+            .printed
+            .write_whole(&mut io::writer(self.stream), &self.line[..end])
+        {
             Ok(()) => Ok(count),
             Err(failed) => {
                 self.faults = self.faults.saturating_add(1);

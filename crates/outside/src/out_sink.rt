@@ -1,21 +1,23 @@
 //! A sink that is the standard output of a runtime.
-ghost use Rattle.std.specs.Prelude.{◌≡◌, ◌≤◌, IfOk, OnErr, false, length};
-ghost use Rattle.std.specs.declared.option.Option.TheVariants.{None};
+ghost use Rattle.std.specs.Prelude.{◌≡◌, ◌≤◌, ◌++◌, [], IfOk, OnErr, false, length, take};
+ghost use Rattle.std.specs.declared.option.Option.TheVariants.{Some};
 ghost use Rattle.outside.specs.Faults.{next_fault, faults_after, MayCount};
+ghost use Rattle.outside.specs.OutSink.{HasPrinted};
 
-use crate::retries::write_some;
-use crate::{Outlet, Sink, SinkFailed};
+use crate::{Outlet, Printed, Sink, SinkFailed};
 use std::io;
-use std::io::{ErrorKind, Write};
+use std::io::ErrorKind;
 use std::marker::Model;
 
-/// The standard output of a runtime. It is the trusted edge: it makes no content known.
+/// The standard output of a runtime. It is the trusted edge: it notes the bytes that the runtime
+/// took, beside the call, and no clause says that they arrive.
 ///
-/// A contract sees it as a `PrintState`: the count of errors, which saturates at the largest u64,
-/// and whether the last write failed because nobody reads any more.
+/// A contract sees it as a `PrintState`: these bytes, the count of errors, which saturates at the
+/// largest u64, and whether the last write failed because nobody reads any more.
 #[derive(Drop)]
 pub struct OutSink<'a, P: Print> {
     runtime: &'a P,
+    printed: Printed,
     faults: u64,
     is_abandoned: bool,
 }
@@ -25,16 +27,21 @@ impl<'a, P: Print> Model for OutSink<'a, P> {
 
     ghost Value = { PrintState };
 
-    ghost view = { λ sink. record { faults = sink.faults; is_abandoned = sink.is_abandoned } };
+    ghost view = { λ sink. record {
+      printed = sink.printed.bytes;
+      faults = sink.faults;
+      is_abandoned = sink.is_abandoned;
+    } };
 }
 
 impl<'a, P: Print> OutSink<'a, P> {
     /// The sink that is that runtime's standard output. It takes no memory.
     pub fn new(runtime: &'a P) -> OutSink<'a, P>
-        ensures { result ≡ record { faults = 0; is_abandoned = false } }
+        ensures { result ≡ record { printed = []; faults = 0; is_abandoned = false } }
     {
         OutSink {
             runtime,
+            printed: Printed::new(),
             faults: 0,
             is_abandoned: false,
         }
@@ -44,6 +51,7 @@ impl<'a, P: Print> OutSink<'a, P> {
     fn count_fault(&mut self, kind: ErrorKind)
         ensures later { self.old.faults ≤ self.new.faults }
         ensures faults { self.new.faults ≡ next_fault self.old.faults }
+        ensures printed { self.new.printed ≡ self.old.printed }
     {
         self.faults = self.faults.saturating_add(1);
         self.is_abandoned = kind == ErrorKind::BrokenPipe;
@@ -51,35 +59,32 @@ impl<'a, P: Print> OutSink<'a, P> {
 }
 
 impl<P: Print> Sink for OutSink<'_, P> {
-    ghost written = { λ sink. None };
+    ghost written = { λ sink. Some sink.printed };
 
     ghost faults = { λ sink. sink.faults };
 
-    ghost writes = { λ before _ _ now. MayCount before.faults now.faults };
+    ghost writes = { HasPrinted };
 
-    /// Each write is flushed before it returns. An error of the runtime, at the write or at the
-    /// flush, is `SinkFailed`. No clause says what reaches the standard output: `tests/edge` looks
+    /// No byte is held back. An error of the runtime is `SinkFailed`. No clause says what reaches the standard output: `tests/edge` looks
     /// at the bytes that arrive, and at a write to a full device.
     fn write(&mut self, bytes: &[u8]) -> Result<usize, SinkFailed>
         ensures within { IfOk result (λ count. count ≤ length bytes.now) }
+        ensures printed { IfOk result
+            (λ count. self.new.printed ≡ self.old.printed ++ take count bytes.now) }
+        ensures lost { OnErr result (self.new.printed ≡ self.old.printed) }
         ensures later { self.old.faults ≤ self.new.faults }
         ensures counts { MayCount self.old.faults self.new.faults }
         ensures ok { IfOk result
             (λ count. self.new.faults ≡ faults_after self.old.faults count (length bytes.now)) }
         ensures err { OnErr result (self.new.faults ≡ next_fault self.old.faults) }
     {
-        let mut out = io::writer(self.runtime);
-        let count = match write_some(&mut out, bytes) {
+        let count = match self.printed.write(&mut io::writer(self.runtime), bytes) {
             Ok(count) => count,
             Err(error) => {
                 self.count_fault(error.kind());
                 return Err(SinkFailed);
             }
         };
-        if let Err(error) = out.flush() {
-            self.count_fault(error.kind());
-            return Err(SinkFailed);
-        }
         if count == 0 && !bytes.is_empty() {
             self.count_fault(ErrorKind::WriteZero);
         }

@@ -2,10 +2,10 @@
 -- tight cut decomposition, a pairing of the leaves of two decompositions, the kind of a graph, an
 -- ear decomposition, a script of moves; and what a run read and wrote.
 -- Stated by: theorems.
-use Rattle.std.specs.Prelude.{◌≡◌, ◌↔◌, ℕ, List, [], ◌∷◌, All, Some, None, false, length, drop, map, if◌then◌else◌, codes, Option, Ok}
+use Rattle.std.specs.Prelude.{◌≡◌, ◌↔◌, ◌++◌, ℕ, List, [], ◌∷◌, All, Some, None, false, length, drop, map, if◌then◌else◌, codes, Option, Ok}
 use Rattle.std.specs.List.{AllByRecursion}
 use Rattle.std.specs.Option.{ForSome}
-use Rattle.outside.specs.Common.{Answer, AnswersInTurn}
+use Rattle.outside.specs.Common.{Answer, AnswersInTurn, OpenState, PrintState, named_texts}
 use Rattle.counting.specs.Common.{Lists, mem}
 use Rattle.graph_core.specs.Common.{InA, InC, InD, Graph, IsBipartite, size, singles, IsBicritical, IsCutPair, HasOnlyTrivialTightCuts, IsNontrivial, IsTight, IsWithinLimits}
 use Rattle.graph_core.specs.declared.verdict.Kind.TheVariants.{Brace, Brick, Composite}
@@ -131,3 +131,9 @@ HoldsPicks text list = pick_file (([], text) ∷ []) [] ≡ loading.All list
 pub record IsDoneRun {S K : Type 0} (reads : S → List ℕ → Answer → S → Type 0) (written : K → Option (List ℕ)) (writes : K → List ℕ → ℕ → K → Type 0) (names texts : List (List ℕ)) (output : List ℕ) (first last : S) (before now : K) : Type 0 where
   pub gave : AnswersInTurn reads names (map Ok texts) first last
   pub wrote : WroteWhole written writes (λ told. told ≡ output) before now
+
+-- the installed program was given these texts for these names, in order, and printed this output,
+-- and nothing else
+pub record IsInstalledRun (names texts : List (List ℕ)) (output : List ℕ) (first last : OpenState) (before now : PrintState) : Type 0 where
+  pub given : last.given ≡ first.given ++ named_texts names texts
+  pub printed : now.printed ≡ before.printed ++ output

@@ -1,0 +1,34 @@
+-- How the program ends, with what it was given and what it printed.
+-- Stated by: front_top.
+use Rattle.std.specs.Prelude.{◌≡◌, ℕ, List, [], Bool, true, false, None}
+use Rattle.outside.specs.Common.{HasSaid, LineState, OpenState, PrintState}
+use Rattle.bench_tasks.specs.Common.{command_of}
+use Rattle.bench_outcomes.specs.Common.{IsSettled, code_of}
+use Rattle.bench_outcomes.specs.declared.status.Status.{Status}
+use Rattle.bench_top.specs.Installed.{IsReportOn}
+use Rattle.front_words.specs.Answers.{answer_of}
+use Rattle.front_words.specs.Saying.{IsSaid}
+use Rattle.front_words.specs.declared.programs.Program.TheVariants.{Mcg}
+use Rattle.front_top.specs.Words.{Known, message_words}
+use Rattle.bench_top.specs.declared.ending.RunEnding.{RunEnding}
+use Rattle.front_top.specs.declared.ending.Message.{Message}
+use Rattle.front_top.specs.declared.ending.Message.TheVariants.{Ending, Nothing}
+
+-- a stream to which nothing was said yet
+abbrev pub nothing_said : LineState
+nothing_said = record { printed = []; held = []; faults = 0 }
+
+-- the program ended so on these words: with this exit status, these files given and these bytes
+-- printed. With status 0 or 1, and words that are not answered at once, the files are those that the
+-- words name, and the bytes are a report on them. One message was said, once: what the ending of the
+-- run means, unless it was to be quiet
+pub record EndsOn (words : List (List ℕ)) (code : ℕ) (shelf : OpenState) (sink : PrintState) (errors : LineState) : Type 0 where
+  pub status : Status
+  pub is_code : code ≡ code_of status
+  pub reported : answer_of Mcg words ≡ None → IsSettled status → IsReportOn (command_of words) status shelf.given sink.printed
+  pub is_quiet : Bool
+  pub message : Message
+  pub speaks : answer_of Mcg words ≡ None → is_quiet ≡ false → (ending : RunEnding) × (message ≡ Ending ending) × (ending.status ≡ status)
+  pub quiet : is_quiet ≡ true → message ≡ Nothing
+  pub known : Known
+  pub said : IsSaid (λ (k : LineState). None) HasSaid (λ (k : LineState). k.faults) (message_words words message known) nothing_said errors

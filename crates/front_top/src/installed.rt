@@ -1,0 +1,64 @@
+//! The program, at the shelf and the sinks that are installed.
+ghost use Rattle.std.specs.Prelude.{◌≡◌, [], IfErr, IfOk};
+ghost use Rattle.front_top.specs.Installed.{EndsOn};
+
+use crate::fronting::run_front;
+use crate::sizing::SizingShelf;
+use arguments::{Arguments, Refusal, read_arguments};
+use front_words::{is_quiet, say_unread_arguments};
+use outside::{DirShelf, KeepingShelf, LineSink, OutSink};
+use std::rt::{Env, Files};
+
+/// How the program ended, with what the runtime gave and what it took.
+#[derive(Drop)]
+pub struct Ended<'a, R: Files + Print, E: Print> {
+    /// The words of the command line, with what the runtime gave, or why they were not read.
+    pub read: Result<Arguments, Refusal>,
+    /// The exit status.
+    pub code: u8,
+    /// The shelf after the run, with the files that were given.
+    pub shelf: SizingShelf<KeepingShelf<DirShelf<'a, R>>>,
+    /// The standard output after the run, with the bytes that it took.
+    pub sink: OutSink<'a, R>,
+    /// The standard error after the run, with the bytes that it took.
+    pub errors: LineSink<'a, E>,
+}
+
+/// The program: reads the words of the command line, does what they ask for, as `run_front`, with
+/// the files and the standard output of the runtime, and then says on the stream what is to be said.
+pub fn program<'a, R: Files + Print + Env + AllocGlobal, E: Print>(
+    runtime: &'a R,
+    stream: &'a E,
+) -> Ended<'a, R, E>
+    ensures ends { IfOk result.read (λ read.
+        EndsOn read.asked.words result.code result.shelf.shelf.shelf result.sink result.errors) }
+    ensures given { IfErr result.read (λ _. result.shelf.shelf.shelf.given ≡ []) }
+    ensures printed { IfErr result.read (λ _. result.sink.printed ≡ []) }
+{
+    let alloc = runtime.alloc();
+    let quiet = is_quiet(runtime);
+    let mut errors = LineSink::new(stream);
+    let mut sink = OutSink::new(runtime);
+    let new = SizingShelf::new(KeepingShelf::new(DirShelf::new(runtime)));
+    let read = read_arguments(runtime, alloc);
+    let (code, shelf) = match &read {
+        Ok(read) => {
+            let ending = run_front(alloc, &read.words, quiet, new, &mut sink);
+            ending.say(&mut errors);
+            (ending.status.code(), ending.shelf)
+        }
+        Err(refusal) => {
+            if !quiet {
+                let _ = say_unread_arguments(&mut errors, "mcg", refusal);
+            }
+            (refusal.code(), new)
+        }
+    };
+    Ended {
+        read,
+        code,
+        shelf,
+        sink,
+        errors,
+    }
+}
