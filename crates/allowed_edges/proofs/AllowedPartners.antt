@@ -1,7 +1,7 @@
 -- An edge is allowed if and only if its ends are partners; the list of the allowed edges, the least
 -- edge that is none, and whether a maximum matching is perfect. A perfect matching with the edge,
 -- less the edge, is perfect without its ends, and back. A perfect matching is as large as any.
-use Rattle.counting.proofs.Common.{◌≡◌, ◌↔◌, ℕ, ◌==◌, ◌||◌, List, refl, arith, eq-eqb, inl, inr, same_tests, both_ways, cases_Bool, or_right, rising_only, mem-rising_list, rising_list-rises, Within, Lists, item, mem, rising_list, Set, none, pair_set}
+use Rattle.graph_core.proofs.from_counting.Common.{◌≡◌, ◌↔◌, ℕ, ◌==◌, ◌||◌, List, refl, arith, eq-eqb, inl, inr, same_tests, both_ways, cases_Bool, or_right, rising_only, mem-rising_list, rising_list-rises, Within, Lists, item, mem, rising_list, Set, none, pair_set}
 use Rattle.graph_core.proofs.Common.{Graph, IsGraph, IsMultigraph, first_end, second_end, size, Allowed, HasPerfect, IsMaximum, has_perfect, is_allowed, missed_count, has_perfect_found, has_perfect_says, is_allowed_found, is_allowed_says, missed_edges, none_missed-perfect, perfect_matching, perfect_misses}
 use Rattle.match_core.specs.Common.{ArePartners, are_partners}
 use Rattle.allowed_edges.proofs.ThroughEdges.{one_cut, one_glued}

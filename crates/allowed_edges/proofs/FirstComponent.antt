@@ -1,6 +1,6 @@
 -- The first of the components is that of vertex 1, since no vertex is less; a graph is connected
 -- where it holds all vertices. A walk from one vertex to another leads over 1.
-use Rattle.counting.proofs.Common.{◌≡◌, ℕ, suc, zero, ◌≤◌, ◌<◌, true, false, not, ◌&&◌, ◌↔◌, List, [], ◌∷◌, ◌++◌, length, cond, sym, ap, ◌∙◌, arith, subst, nat_lt, ltb-true, IfNone, IfSome, Option, Some, slice_get, both_ways, and_parts, false_from_ne_true, mem-rising_list, some_true, but_fails_second, Within, IsLeastOf, mem, rising_list, Set, none, IsLeastWithout}
+use Rattle.graph_core.proofs.from_counting.Common.{◌≡◌, ℕ, suc, zero, ◌≤◌, ◌<◌, true, false, not, ◌&&◌, ◌↔◌, List, [], ◌∷◌, ◌++◌, length, cond, sym, ap, ◌∙◌, arith, subst, nat_lt, ltb-true, IfNone, IfSome, Option, Some, slice_get, both_ways, and_parts, false_from_ne_true, mem-rising_list, some_true, but_fails_second, Within, IsLeastOf, mem, rising_list, Set, none, IsLeastWithout}
 use Rattle.graph_core.proofs.Common.{IsConnected, components, is_least, Graph, IsGraph, Joined, joined, joined_walk, walk_joined, joined_back, joined_on}
 
 -- an increasing list that may begin with 1 does

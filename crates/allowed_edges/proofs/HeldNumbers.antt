@@ -1,6 +1,6 @@
 -- Numbers of matchings at edges: two edges have a number in common if some matching holds both.
 -- A new number is in no set, so it makes two sets meet only where it is put into both.
-use Rattle.counting.proofs.Common.{◌≡◌, ℕ, suc, zero, ◌+◌, ◌<◌, Bool, true, false, ◌&&◌, ◌||◌, ◌==◌, List, [], ◌∷◌, length, get_or, set, map, take, refl, Some, slice_get, slice_set, get_or-set_same, get_or-set_other, ne_eqb, sym, ap, ◌∙◌, arith, rules, inl, inr, eq-eqb, list_any, cases_Bool, cases_eq, same_tests, both_ways, and_from, and_parts, or_cases, or_left, or_right, mem}
+use Rattle.graph_core.proofs.from_counting.Common.{◌≡◌, ℕ, suc, zero, ◌+◌, ◌<◌, Bool, true, false, ◌&&◌, ◌||◌, ◌==◌, List, [], ◌∷◌, length, get_or, set, map, take, refl, Some, slice_get, slice_set, get_or-set_same, get_or-set_other, ne_eqb, sym, ap, ◌∙◌, arith, rules, inl, inr, eq-eqb, list_any, cases_Bool, cases_eq, same_tests, both_ways, and_from, and_parts, or_cases, or_left, or_right, mem}
 use Rattle.match_core.proofs.MatchingEdges.{edge_of}
 use Rattle.match_core.specs.declared.matching.MatchRow.{MatchRow}
 use Rattle.allowed_edges.specs.EdgeTables.{meets}

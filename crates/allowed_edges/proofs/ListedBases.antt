@@ -1,6 +1,6 @@
 -- A listed matching that contains an edge. It is one of the list, so it is perfect; and a row with
 -- the edge is a place of it in the list of its edges.
-use Rattle.counting.proofs.Common.{◌≡◌, ℕ, suc, zero, ◌<◌, true, ◌==◌, List, [], ◌∷◌, length, get_or, map, sym, ap, ◌∙◌, arith, eq-eqb, subst, Some, slice_get, get_or-map, length-map, or_left, or_right, mem, none}
+use Rattle.graph_core.proofs.from_counting.Common.{◌≡◌, ℕ, suc, zero, ◌<◌, true, ◌==◌, List, [], ◌∷◌, length, get_or, map, sym, ap, ◌∙◌, arith, eq-eqb, subst, Some, slice_get, get_or-map, length-map, or_left, or_right, mem, none}
 use Rattle.graph_core.proofs.Common.{Graph, IsPerfect}
 use Rattle.match_core.specs.Common.{IsOf, MatchingValue, edges_of}
 use Rattle.match_core.specs.declared.matching.MatchRow.{MatchRow}

@@ -1,8 +1,8 @@
 -- Marks set at the places of the edges of a matching, row by row.
 -- By induction on the rows, and by cases on the place that is asked for.
-use Rattle.counting.proofs.Common.{◌≡◌, ℕ, suc, zero, ◌<◌, Bool, true, false, ◌||◌, ◌==◌, List, [], ◌∷◌, length, map, take, ap, ◌∙◌, arith, eq-eqb, ne_eqb, rules, get_or-set_same, get_or-set_other, subst, All, Some, slice_get, slice_set, All-get_or, slice_get_within, get_or_from_slice_get, cases_eq, or_right, or_false, mem}
+use Rattle.graph_core.proofs.from_counting.Common.{◌≡◌, ℕ, suc, zero, ◌<◌, Bool, true, false, ◌||◌, ◌==◌, List, [], ◌∷◌, length, map, take, ap, ◌∙◌, arith, eq-eqb, ne_eqb, rules, get_or-set_same, get_or-set_other, subst, All, Some, slice_get, slice_set, All-get_or, slice_get_within, get_or_from_slice_get, cases_eq, or_right, or_false, mem}
 use Rattle.match_core.proofs.MatchingEdges.{edge_of}
-use Rattle.match_search.specs.Common.{marks}
+use Rattle.match_core.specs.from_match_search.Common.{marks}
 use Rattle.match_core.specs.declared.matching.MatchRow.{MatchRow}
 
 -- one place more is marked

@@ -2,7 +2,7 @@
 -- list settles. What a list contains it still holds when it is longer; the new matching holds a
 -- pair that no listed one holds.
 use Rattle.std.proofs.Common.{◌≡◌, ◌≢◌, ℕ, ◌+◌, ◌-◌, ◌<◌, true, false, ◌&&◌, ◌||◌, ◌==◌, ◌↔◌, List, [], ◌∷◌, ◌++◌, length, get_or, map, filter, refl, sym, ap, ap₂, ◌∙◌, arith, inl, inr, subst, eqb-true, length-append, All, Any}
-use Rattle.counting.proofs.Common.{All-push, Any-from_list_any, list_any_at, and_from, and_parts, both_ways, cases_eq, cases_order, false_from_ne_true, or_cases, or_left, or_right, get_or_append_left, map-append, list_any-append, or_false, get_or-append_seam, Within, IsRisingIn, mem, none}
+use Rattle.graph_core.proofs.from_counting.Common.{All-push, Any-from_list_any, list_any_at, and_from, and_parts, both_ways, cases_eq, cases_order, false_from_ne_true, or_cases, or_left, or_right, get_or_append_left, map-append, list_any-append, or_false, get_or-append_seam, Within, IsRisingIn, mem, none}
 use Rattle.graph_core.proofs.Common.{Graph, IsGraph, first_end, second_end, size, IsEnd, IsPerfect, Together, IsLean, IsPairList, two_ends_le_degree}
 use Rattle.match_core.specs.Common.{IsOf, KeepsMatching, MatchingValue, edges_of, is_clear}
 use Rattle.match_core.specs.declared.matching.MatchRow.{MatchRow}

@@ -1,13 +1,13 @@
 -- A matching with an edge more, between two vertices that it does not meet, and what a row that
 -- was read says of a matching's ends.
-use Rattle.counting.proofs.Common.{◌≡◌, ℕ, suc, zero, ◌+◌, ◌*◌, ◌<◌, true, false, ◌==◌, ◌||◌, refl, sym, ap, ◌∙◌, arith, List, [], ◌∷◌, inl, ne_eqb, Some, length, slice_get, both_ways, set-narrower, Within, bit, Set, put, IsRisingIn, mem}
+use Rattle.graph_core.proofs.from_counting.Common.{◌≡◌, ℕ, suc, zero, ◌+◌, ◌*◌, ◌<◌, true, false, ◌==◌, ◌||◌, refl, sym, ap, ◌∙◌, arith, List, [], ◌∷◌, inl, ne_eqb, Some, length, slice_get, both_ways, set-narrower, Within, bit, Set, put, IsRisingIn, mem}
 use Rattle.graph_core.proofs.Common.{Graph, IsGraph, IsMultigraph, degree, first_end, second_end, size, IsMatching, missed_count, add_edge}
 use Rattle.match_core.specs.Common.{IsOf, KeepsMatching, MatchingValue, edges_of, ends_at}
 use Rattle.match_core.specs.declared.matching.MatchRow.{MatchRow}
 use Rattle.allowed_edges.specs.Leaving.{IsMatchingOff}
-use Rattle.match_search.proofs.Alike.{matching_alike}
+use Rattle.match_core.proofs.from_match_search.Alike.{matching_alike}
 use Rattle.match_core.proofs.ClearedMatchings.{left_size}
-use Rattle.match_search.proofs.GrownRows.{with_put}
+use Rattle.match_core.proofs.from_match_search.GrownRows.{with_put}
 use Rattle.match_core.proofs.MatchingEdges.{degree-ends_at, rows-rise}
 
 -- each row has its ends in x: then no row is at a vertex outside x

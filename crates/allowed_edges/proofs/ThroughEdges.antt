@@ -2,12 +2,12 @@
 -- ends and back. The edges meet their ends once, so they are glued to the one and cut off the
 -- other; and a perfect matching leaves few vertices missed when the edges at these ends are taken
 -- out.
-use Rattle.counting.proofs.Common.{◌≡◌, ℕ, ◌*◌, ◌≢◌, true, false, ◌==◌, ◌||◌, ◌⊎◌, refl, sym, ap, ◌∙◌, arith, inl, inr, eqb-true, ne_eqb, both_ways, cases_eq, false_from_ne_true, true≢false, or_cases, Within, bit, Set, none, put, union, minus, everything}
+use Rattle.graph_core.proofs.from_counting.Common.{◌≡◌, ℕ, ◌*◌, ◌≢◌, true, false, ◌==◌, ◌||◌, ◌⊎◌, refl, sym, ap, ◌∙◌, arith, inl, inr, eqb-true, ne_eqb, both_ways, cases_eq, false_from_ne_true, true≢false, or_cases, Within, bit, Set, none, put, union, minus, everything}
 use Rattle.graph_core.proofs.Common.{Graph, IsGraph, IsMultigraph, degree, first_end, second_end, size, Allowed, HasPerfect, IsPerfect, Together, degree_congr, none_matching, degree_put, ends_of}
-use Rattle.match_search.proofs.AlternatingPaths.{put_off, put_at}
-use Rattle.match_search.specs.Common.{MeetOnce}
+use Rattle.match_core.proofs.from_match_search.AlternatingPaths.{put_off, put_at}
+use Rattle.match_core.specs.from_match_search.Common.{MeetOnce}
 use Rattle.match_core.proofs.ClearedMatchings.{left_misses}
-use Rattle.match_search.proofs.Gluing.{cut_off, glued, meet_more}
+use Rattle.match_core.proofs.from_match_search.Gluing.{cut_off, glued, meet_more}
 use Rattle.allowed_edges.specs.Leaving.{LeavesFew, ShareNone}
 
 -- being a perfect matching depends only on the values at the edges
@@ -117,7 +117,7 @@ module _ (g : Graph) (is : IsMultigraph g) (e f : ℕ) (we : Within (size g) e) 
       at : (v : ℕ) → Within g.order v → (first_end g f ≡ v) ⊎ (second_end g f ≡ v) → degree g m v ≡ 0
       at v wv end =
           let a = perfect.away v wv (grind arith) in
-          let s = degree_congr g m (put q e true) v (λ i wi. h i ∙ Rattle.match_search.proofs.GrownRows.with_put q e i) in
+          let s = degree_congr g m (put q e true) v (λ i wi. h i ∙ Rattle.match_core.proofs.from_match_search.GrownRows.with_put q e i) in
           let p = degree_put g q e true v we in
           let n = ap (λ k. bit (q e) * k) (ends_none g e v (λ s. apart v s end)) in
           let l = ends_none g e v (λ s. apart v s end) in

@@ -1,10 +1,10 @@
 -- The edges that a row names at both of their ends are a matching. Idea: two of them at one vertex
 -- are both the edge that the row names there.
-use Rattle.counting.proofs.Common.{◌≡◌, ℕ, Bool, true, sym, ap, ◌∙◌, List, [], arith, both_ways, rising_holds, mem-rising_list, Within, mem, rising_list, Set, none}
+use Rattle.graph_core.proofs.from_counting.Common.{◌≡◌, ℕ, Bool, true, sym, ap, ◌∙◌, List, [], arith, both_ways, rising_holds, mem-rising_list, Within, mem, rising_list, Set, none}
 use Rattle.graph_core.proofs.Common.{Graph, IsMultigraph, size, IsEnd, IsMatching, IsPerfect, missed_count, none_missed-perfect, apart_matching}
 use Rattle.match_core.specs.Common.{IsOf, MatchingValue, edges_of}
-use Rattle.match_search.proofs.Alike.{matching_alike}
-use Rattle.match_search.specs.Common.{marks, numbers}
+use Rattle.match_core.proofs.from_match_search.Alike.{matching_alike}
+use Rattle.match_core.specs.from_match_search.Common.{marks, numbers}
 use Rattle.allowed_edges.specs.Leaving.{IsMatchingOff}
 use Rattle.allowed_edges.specs.PairTables.{NamesEdge}
 

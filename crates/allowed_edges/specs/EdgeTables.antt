@@ -3,7 +3,7 @@
 use Rattle.std.specs.Prelude.{◌≡◌, ℕ, suc, ◌+◌, ◌<◌, ◌≤◌, Bool, true, List, [], get_or, length, All}
 use Rattle.std.specs.Global.{Vec}
 use Rattle.std.specs.List.{list_any}
-use Rattle.counting.specs.Common.{mem}
+use Rattle.graph_core.specs.from_counting.Common.{mem}
 
 -- the number of edges, the blocks, and how many matchings are in the last block; a block has for
 -- each edge the numbers of its matchings that hold it

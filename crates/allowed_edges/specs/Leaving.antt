@@ -1,7 +1,7 @@
 -- Matchings of G - X, and what is left of a matching when the edges with an end in X are removed.
 -- Stated by: allowed_edges, tight_cuts.
 use Rattle.std.specs.Prelude.{◌≡◌, ℕ, ◌⊎◌, Bool, true, List, ◌||◌, ◌==◌}
-use Rattle.counting.specs.Common.{Within, mem, Set}
+use Rattle.graph_core.specs.from_counting.Common.{Within, mem, Set}
 use Rattle.graph_core.specs.Common.{Graph, first_end, second_end, IsEnd, IsMatching, IsPerfect, missed_count}
 use Rattle.match_core.specs.Common.{IsOf, MatchingValue, edges_of, left_over}
 

@@ -3,10 +3,10 @@
 -- Stated by: allowed_edges, tight_cuts.
 use Rattle.std.specs.Prelude.{◌≡◌, ℕ, ◌≤◌, ◌<◌, ◌⊎◌, Bool, true, false, ◌&&◌, List, [], ◌∷◌, ◌++◌, map, All}
 use Rattle.std.specs.List.{list_any}
-use Rattle.counting.specs.Common.{Within, IsRisingIn, mem, none}
+use Rattle.graph_core.specs.from_counting.Common.{Within, IsRisingIn, mem, none}
 use Rattle.graph_core.specs.Common.{Graph, first_end, second_end, size, IsPerfect, Together, IsLean}
 use Rattle.match_core.specs.Common.{IsOf, KeepsMatching, MatchingValue, edges_of}
-use Rattle.match_search.specs.Common.{numbers}
+use Rattle.match_core.specs.from_match_search.Common.{numbers}
 
 -- the number of edges of the graph, and matchings of it
 pub record PairsValue : Type 0 where

@@ -1,6 +1,6 @@
 //! Perfect matchings from which a search for another one starts.
 ghost use Rattle.std.specs.Prelude.{◌≡◌, true, IfOk, Some, None};
-ghost use Rattle.counting.specs.Common.{Within, mem, none};
+ghost use Rattle.graph_core.specs.from_counting.Common.{Within, mem, none};
 ghost use Rattle.graph_core.specs.Common.{size, Allowed, IsPerfect};
 ghost use Rattle.match_core.specs.Common.{IsOf, edges_of};
 ghost use Rattle.allowed_edges.specs.PairTables.{IsPerfectWith, SettlesEdges};
@@ -8,9 +8,9 @@ ghost use Rattle.allowed_edges.specs.PairTables.{IsPerfectWith, SettlesEdges};
 use crate::pair_table::PairTable;
 use crate::questions::perfect_with_edge;
 use graph_core::MultiGraph;
+use graph_core::vset_core::VSet;
 use match_core::Matching;
 use std::alloc::{AllocError as Memory, Global};
-use vset_core::VSet;
 
 /// A perfect matching that contains `e`: a listed one if there is one, otherwise one that at most
 /// one augmentation of `kept` gives; `None` only if no perfect matching contains it.

@@ -1,6 +1,6 @@
 //! The allowed edges: those in perfect matchings.
 ghost use Rattle.std.specs.Prelude.{◌≡◌, ◌↔◌, None, IfSome, IfOk};
-ghost use Rattle.counting.specs.Common.{Within, none, Lists};
+ghost use Rattle.graph_core.specs.from_counting.Common.{Within, none, Lists};
 ghost use Rattle.graph_core.specs.Common.{size, Allowed, HasPerfect, is_allowed};
 ghost use Rattle.match_core.specs.Common.{ArePartners};
 

@@ -1,15 +1,15 @@
 //! Perfect matchings exchanged along alternating cycles of length four. Nothing is promised about
 //! the result; it is tested before it is used (`varied`).
 ghost use Rattle.std.specs.Prelude.{◌≡◌, ◌≢◌, true};
-ghost use Rattle.counting.specs.Common.{Within};
+ghost use Rattle.graph_core.specs.from_counting.Common.{Within};
 ghost use Rattle.graph_core.specs.Common.{size};
-ghost use Rattle.match_search.specs.Common.{marks, numbers};
+ghost use Rattle.match_core.specs.from_match_search.Common.{marks, numbers};
 
 use crate::table::EdgeTable;
 use graph_core::MultiGraph;
+use graph_core::vset_core::{MOST_VERTICES, VSet};
 use match_core::Matching;
 use std::alloc::{AllocError as Memory, Global};
-use vset_core::{MOST_VERTICES, VSet};
 
 /// For any two vertices an edge that joins them, or 0 if there is none.
 #[derive(Drop)]

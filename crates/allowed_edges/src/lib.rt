@@ -28,8 +28,11 @@ mod table;
 mod varied;
 mod verdict;
 
+// Passed on to the crates above.
 pub use bases::base_with_edge;
 pub use edges::{allowed, allowed_in, is_allowed_in};
+pub use match_core;
+pub use match_core::match_search;
 pub use pair_table::PairTable;
 pub use pairs::{list_new, list_with_edge, no_pairs, seek_pair, together};
 pub use perfect::partners_where_perfect;

@@ -1,6 +1,6 @@
 //! The table of the pairs of edges that lie together.
 ghost use Rattle.std.specs.Prelude.{◌≡◌, ◌++◌, ◌∷◌, [], true, All, IfOk, OnOk};
-ghost use Rattle.counting.specs.Common.{Within, mem};
+ghost use Rattle.graph_core.specs.from_counting.Common.{Within, mem};
 ghost use Rattle.graph_core.specs.Common.{size};
 ghost use Rattle.match_core.specs.Common.{edges_of};
 ghost use Rattle.allowed_edges.specs.PairTables.{IsPerfectWith, edge_lists, holds_both};

@@ -1,6 +1,6 @@
 //! The pairs of edges that lie together in a perfect matching.
 ghost use Rattle.std.specs.Prelude.{◌≡◌, ◌≢◌, ℕ, ◌+◌, ◌<◌, ◌≤◌, ◌++◌, ◌∷◌, [], ◌↔◌, true, false, length, IfOk, All, OnOk};
-ghost use Rattle.counting.specs.Common.{Within, none, mem};
+ghost use Rattle.graph_core.specs.from_counting.Common.{Within, none, mem};
 ghost use Rattle.graph_core.specs.Common.{size, Allowed, IsPerfect, Together, IsLean, IsPairList};
 ghost use Rattle.match_core.specs.Common.{IsOf, edges_of};
 ghost use Rattle.allowed_edges.specs.Leaving.{share_end};
@@ -11,9 +11,9 @@ use crate::pair_table::PairTable;
 use crate::questions::{perfect_with_edge, perfect_with_pair};
 use crate::sharing::share_end;
 use graph_core::MultiGraph;
+use graph_core::vset_core::VSet;
 use match_core::{Matching, perfect_without};
 use std::alloc::{AllocError as Memory, Global};
-use vset_core::VSet;
 
 /// The table of the pairs of edges of `g` that lie together: `both` is true if and only if some
 /// perfect matching contains both edges, and `list` is a pair list, in which each matching contains

@@ -1,14 +1,14 @@
 //! Whether a graph has a perfect matching, and its table of partners if it has one.
 ghost use Rattle.std.specs.Prelude.{◌≡◌, ◌↔◌, None, IsTrue, IfSome, IfOk};
-ghost use Rattle.counting.specs.Common.{mem, none};
+ghost use Rattle.graph_core.specs.from_counting.Common.{mem, none};
 ghost use Rattle.graph_core.specs.Common.{HasPerfect, IsMaximum};
 ghost use Rattle.match_core.specs.Common.{IsOf, edges_of, ArePartners};
 
 use crate::questions::misses_none;
 use graph_core::MultiGraph;
+use graph_core::vset_core::VSet;
 use match_core::{Matching, PartnerTable, partners};
 use std::alloc::{AllocError as Memory, Global};
-use vset_core::VSet;
 
 /// The table of partners of `g`, from a maximum matching; `None` if and only if the graph has no
 /// perfect matching. No table is made then, since it would say nothing about the edges.

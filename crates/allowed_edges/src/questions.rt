@@ -1,16 +1,16 @@
 //! Perfect matchings that contain one edge or two, each from a given perfect matching by at most
 //! one augmentation.
 ghost use Rattle.std.specs.Prelude.{◌≡◌, ◌||◌, ◌==◌, ◌⊎◌, ℕ, true, ◌↔◌, IfOk, Some, None};
-ghost use Rattle.counting.specs.Common.{Within, none, mem};
+ghost use Rattle.graph_core.specs.from_counting.Common.{Within, none, mem};
 ghost use Rattle.graph_core.specs.Common.{size, first_end, second_end, Allowed, HasPerfect, IsPerfect, Together, missed_count};
 ghost use Rattle.match_core.specs.Common.{IsOf, edges_of};
 ghost use Rattle.allowed_edges.specs.Leaving.{IsMatchingOff, LeavesFew, ShareNone};
 
 use crate::short_paths::completed;
 use graph_core::MultiGraph;
+use graph_core::vset_core::VSet;
 use match_core::{Matching, repair};
 use std::alloc::{AllocError as Memory, Global};
-use vset_core::VSet;
 
 /// A perfect matching that contains `e`, from a perfect matching; `None` if and only if there is
 /// none.

@@ -1,6 +1,6 @@
 //! Whether two edges share an end.
 ghost use Rattle.std.specs.Prelude.{◌≡◌};
-ghost use Rattle.counting.specs.Common.{Within};
+ghost use Rattle.graph_core.specs.from_counting.Common.{Within};
 ghost use Rattle.graph_core.specs.Common.{size};
 ghost use Rattle.allowed_edges.specs.Leaving.{share_end};
 

@@ -2,16 +2,16 @@
 //! them, or by two edges in place of one. In a dense graph such a path is found much faster than by
 //! a search for any path.
 ghost use Rattle.std.specs.Prelude.{◌≡◌, ◌<◌, ◌≤◌, ℕ, false, length, slice_get, IfOk, Some, None};
-ghost use Rattle.counting.specs.Common.{Within, mem};
+ghost use Rattle.graph_core.specs.from_counting.Common.{Within, mem};
 ghost use Rattle.graph_core.specs.Common.{size};
 ghost use Rattle.match_core.specs.Common.{ends_at};
 ghost use Rattle.allowed_edges.specs.Leaving.{IsMatchingOff, IsPerfectOffMet};
 
 use crate::questions::misses_none;
 use graph_core::MultiGraph;
+use graph_core::vset_core::{MOST_VERTICES, VSet};
 use match_core::{MatchRow, Matching};
 use std::alloc::{AllocError as Memory, Global};
-use vset_core::{MOST_VERTICES, VSet};
 
 /// A perfect matching of G - met, from a matching of it: with one more edge between two vertices
 /// that it misses, or with two edges in place of one. `None` if neither is possible, which says

@@ -1,14 +1,14 @@
 //! Tables that say which of the listed matchings hold an edge, and so which two edges lie together
 //! in one of them.
 ghost use Rattle.std.specs.Prelude.{◌≡◌, ◌≢◌, ℕ, ◌+◌, ◌<◌, ◌≤◌, ◌==◌, ◌&&◌, ◌||◌, false, length, IfOk, OnOk, All};
-ghost use Rattle.counting.specs.Common.{Within, mem};
+ghost use Rattle.graph_core.specs.from_counting.Common.{Within, mem};
 ghost use Rattle.match_core.specs.Common.{edges_of};
 ghost use Rattle.allowed_edges.specs.EdgeTables.{are_held, numbers_at, share};
 
+use graph_core::vset_core::{MOST_VERTICES, VSet};
 use match_core::Matching;
 use std::alloc::{AllocError as Memory, Global};
 use std::marker::Model;
-use vset_core::{MOST_VERTICES, VSet};
 
 /// Matchings by numbers from 1 to `MOST_VERTICES`, in blocks: each block has for each edge the
 /// numbers of those that hold it, and the last has `count` matchings. Contracts see the number of

@@ -2,19 +2,19 @@
 //! the result of the exchanges is tested, and used only if it is a perfect matching with the two
 //! edges.
 ghost use Rattle.std.specs.Prelude.{◌≡◌, ℕ, ◌+◌, true, length, IfOk, Some};
-ghost use Rattle.counting.specs.Common.{Within, mem, none};
+ghost use Rattle.graph_core.specs.from_counting.Common.{Within, mem, none};
 ghost use Rattle.graph_core.specs.Common.{size, IsMatching};
 ghost use Rattle.match_core.specs.Common.{edges_of};
-ghost use Rattle.match_search.specs.Common.{marks};
+ghost use Rattle.match_core.specs.from_match_search.Common.{marks};
 ghost use Rattle.allowed_edges.specs.PairTables.{IsPerfectWith, NamesEdge};
 
 use crate::exchanges::{Joins, exchanged, is_edge, is_marked, number_at};
 use crate::questions::misses_none;
 use crate::table::EdgeTable;
 use graph_core::MultiGraph;
+use graph_core::vset_core::VSet;
 use match_core::{Matching, matching_of};
 use std::alloc::{AllocError as Memory, Global};
-use vset_core::VSet;
 
 /// A perfect matching that contains `e` and `f`, made from a given one: exchanged so that it
 /// contains more of the edges that lie with `e` or with `f` in no matching of the table, if the

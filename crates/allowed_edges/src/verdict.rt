@@ -1,15 +1,15 @@
 //! Whether a graph is matching covered.
 ghost use Rattle.std.specs.Prelude.{◌≡◌, ◌↔◌, ℕ, ◌≤◌, None, IfSome, IfNone, IfOk};
-ghost use Rattle.counting.specs.Common.{Within, mem, IsRisingIn, none, IsLeastWithout};
+ghost use Rattle.graph_core.specs.from_counting.Common.{Within, mem, IsRisingIn, none, IsLeastWithout};
 ghost use Rattle.graph_core.specs.Common.{Attains, IsConnected, components, size, Allowed, HasPerfect, IsMaximum, Joined, IsVerdict};
 ghost use Rattle.match_core.specs.Common.{edges_of, ArePartners};
 
 use crate::edges::is_allowed_in;
 use crate::perfect::partners_where_perfect;
+use graph_core::vset_core::VSet;
 use graph_core::{MultiGraph, Reason, SetList, Verdict};
 use match_core::{Found, PartnerTable, maximum};
 use std::alloc::{AllocError as Memory, Global};
-use vset_core::VSet;
 
 /// Whether `g` is matching covered, and if not, the first reason, in the order `Small`, `Parted`,
 /// `Unmatched`, `Unallowed`. Takes one maximum matching, at most n searches and O(n + m) further

@@ -1,6 +1,6 @@
 -- What is true of each item of a list that is made of other lists, and of each item of such a list
 -- read back. Inductions over the list.
-use Rattle.counting.proofs.Common.{◌≡◌, ℕ, suc, zero, ◌<◌, Bool, true, false, cond, refl, sym, ap, ◌∙◌, arith, inl, inr, List, [], ◌∷◌, ◌++◌, map, flat_map, filter, Some, None, nat_lt, ltb-true, subst, All, find, All-append, cases_Bool, cases_lt, All-cons, All-head, All-map, All-nil, All-tail, Within, pair_with, rising_list, rising_pairs, Set, everything}
+use Rattle.graph_core.proofs.from_counting.Common.{◌≡◌, ℕ, suc, zero, ◌<◌, Bool, true, false, cond, refl, sym, ap, ◌∙◌, arith, inl, inr, List, [], ◌∷◌, ◌++◌, map, flat_map, filter, Some, None, nat_lt, ltb-true, subst, All, find, All-append, cases_Bool, cases_lt, All-cons, All-head, All-map, All-nil, All-tail, Within, pair_with, rising_list, rising_pairs, Set, everything}
 
 -- the items of an increasing list
 pub all_rising : (n : ℕ) (x : Set) (P : ℕ → Type 0) → ((v : ℕ) → Within n v → x v ≡ true → P v) → All P (rising_list n x)

@@ -2,7 +2,7 @@
 -- perfect matching in its cut: odd components, as many as it has vertices. In a covered graph each
 -- has a tight cut. Each odd component is left by at least one edge of a perfect matching, and the
 -- barrier meets no more of them than it has vertices.
-use Rattle.counting.proofs.Common.{◌≡◌, ℕ, ◌*◌, ◌≤◌, ◌≢◌, Bool, true, false, refl, sym, ap, ap₂, ◌∙◌, arith, ◌&&◌, ◌||◌, not, inl, inr, nat_lt, [], ◌∷◌, cases_Bool, false_from_ne_true, both_ways, and_parts, and_from, not-true, count_zero, some_count, bit_true, count_congr, only_one, complement_odd, some_true, true_some, some_term, total_congr, total_le, total_mul, total_none, total_swap, total_tight, and_fails_second, same_tests, Within, bit, count, is_odd, total, Set, complement, none, some}
+use Rattle.graph_core.proofs.from_counting.Common.{◌≡◌, ℕ, ◌*◌, ◌≤◌, ◌≢◌, Bool, true, false, refl, sym, ap, ap₂, ◌∙◌, arith, ◌&&◌, ◌||◌, not, inl, inr, nat_lt, [], ◌∷◌, cases_Bool, false_from_ne_true, both_ways, and_parts, and_from, not-true, count_zero, some_count, bit_true, count_congr, only_one, complement_odd, some_true, true_some, some_term, total_congr, total_le, total_mul, total_none, total_swap, total_tight, and_fails_second, same_tests, Within, bit, count, is_odd, total, Set, complement, none, some}
 use Rattle.barrier_kit.proofs.Matched.{cuts_met, even_order, inner, AreCutsMet}
 use Rattle.graph_core.proofs.Common.{covered_perfect, joined_outside, joined_walk, one_leader, some_leader, walk_joined, parity, tight-same, odd_meets, adjacent_from, has_ends-own, joined_back, joined_on, joined_self, component_count, is_least, odd_component_count, IsCovered, Graph, IsGraph, edges_in_cut, first_end, in_cut, inside, second_end, size, IsPerfect, IsBarrier, IsTight, Joined, joined}
 

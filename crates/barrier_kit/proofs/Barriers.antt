@@ -1,9 +1,9 @@
 -- Barriers and perfect matchings: if G has a perfect matching, o(G - S) is at most |S|. Parity does
 -- the rest: if two vertices u and v lie in a barrier, G - u - v has no perfect matching, and if it
 -- has none, u and v lie in a barrier.
-use Rattle.counting.proofs.Common.{◌≡◌, ℕ, suc, zero, ◌+◌, ◌*◌, ◌≤◌, ◌≢◌, Bool, true, false, ◌==◌, refl, sym, ap, ap₂, ◌∙◌, arith, ◌&&◌, ◌||◌, not, eq-eqb, ne_eqb, eqb-true, true≢false, count_complement, count_congr, odd-add, odd-double, odd_total, total_add, total_at, total_congr, total_mul, total_none, total_swap, fun_ext, Within, bit, count, is_odd, total, pair_set, Set, complement, minus, none, union}
+use Rattle.graph_core.proofs.from_counting.Common.{◌≡◌, ℕ, suc, zero, ◌+◌, ◌*◌, ◌≤◌, ◌≢◌, Bool, true, false, ◌==◌, refl, sym, ap, ap₂, ◌∙◌, arith, ◌&&◌, ◌||◌, not, eq-eqb, ne_eqb, eqb-true, true≢false, count_complement, count_congr, odd-add, odd-double, odd_total, total_add, total_at, total_congr, total_mul, total_none, total_swap, fun_ext, Within, bit, count, is_odd, total, pair_set, Set, complement, minus, none, union}
 use Rattle.graph_core.proofs.Common.{joined_outside, one_leader, some_leader, missed_edges, none_missed-perfect, perfect_matching, perfect_misses, berge_bound, is_least, odd_component_count, Graph, IsGraph, size, IsPerfect, missed_count, IsBarrier, joined}
-use Rattle.match_core.proofs.TutteBerge.{TutteBerge, tutte_berge}
+use Rattle.graph_facts.proofs.from_match_core.TutteBerge.{TutteBerge, tutte_berge}
 
 -- the vertices outside s, component by component
 pub by_components : (g : Graph) (s : Set) → IsGraph g → count g.order (complement s) ≡ total g.order (λ u. bit (is_least g s u) * count g.order (joined g s u))

@@ -2,7 +2,7 @@
 -- perfect matching where each vertex set that is neither empty nor all has an edge of some perfect
 -- matching in its cut. A barrier grows by each equivalent vertex outside it, until it is the whole
 -- class.
-use Rattle.counting.proofs.Common.{◌≡◌, ℕ, suc, zero, ◌+◌, ◌≤◌, Bool, true, false, ◌==◌, refl, sym, ap, ◌∙◌, arith, ◌&&◌, ◌||◌, not, eq-eqb, eqb-true, ◌⊎◌, inl, inr, cases_eq, cases_Bool, both_ways, count_singleton, scan, choose_set, count_le, count_more, same_tests, Within, count, is_odd, Set, minus, none, singleton, union}
+use Rattle.graph_core.proofs.from_counting.Common.{◌≡◌, ℕ, suc, zero, ◌+◌, ◌≤◌, Bool, true, false, ◌==◌, refl, sym, ap, ◌∙◌, arith, ◌&&◌, ◌||◌, not, eq-eqb, eqb-true, ◌⊎◌, inl, inr, cases_eq, cases_Bool, both_ways, count_singleton, scan, choose_set, count_le, count_more, same_tests, Within, count, is_odd, Set, minus, none, singleton, union}
 use Rattle.barrier_kit.proofs.BarrierCuts.{leader_of, leads_out, odd_part, part_out}
 use Rattle.barrier_kit.proofs.Barriers.{barrier_pair, few_odd_components}
 use Rattle.barrier_kit.proofs.Enlarging.{barrier_congr, enlarge, same_parity}

@@ -1,7 +1,7 @@
 -- A covered graph that is not bicritical has a class with a nontrivial tight cut, and a bicritical
 -- one has none. If B is a barrier with at least two vertices, some component of G - B has at least
 -- three: otherwise each edge would have one end in B.
-use Rattle.counting.proofs.Common.{◌≡◌, ℕ, suc, zero, ◌≤◌, ◌≢◌, Bool, true, false, ◌==◌, refl, sym, ap, ◌∙◌, arith, not, ◌⊎◌, ◌↔◌, inl, inr, cases_eq, cases_lt, cases_Bool, true≢false, both_ways, only_one, member_count, two_members, two_of, odd_three, count_singleton, count_mono, scan, count, Within, is_odd, Set, pair_set, complement, singleton}
+use Rattle.graph_core.proofs.from_counting.Common.{◌≡◌, ℕ, suc, zero, ◌≤◌, ◌≢◌, Bool, true, false, ◌==◌, refl, sym, ap, ◌∙◌, arith, not, ◌⊎◌, ◌↔◌, inl, inr, cases_eq, cases_lt, cases_Bool, true≢false, both_ways, only_one, member_count, two_members, two_of, odd_three, count_singleton, count_mono, scan, count, Within, is_odd, Set, pair_set, complement, singleton}
 use Rattle.barrier_kit.proofs.BarrierCuts.{leader_of, leads_out, part_out, part_step, part_same, none_inside, part_tight, many_parts}
 use Rattle.barrier_kit.proofs.Barriers.{equivalent_barrier}
 use Rattle.barrier_kit.proofs.ClassLaw.{perfect_or_not, class_exists, class_barrier}

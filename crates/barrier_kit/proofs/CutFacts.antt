@@ -1,7 +1,7 @@
 -- What is true of the cuts that shores give: each is a canonical nontrivial shore, tight where the
 -- shores are, and there is none if and only if each shore is trivial. Inductions over the shores; a
 -- step appends at most one canonical shore.
-use Rattle.counting.proofs.Common.{◌≡◌, ℕ, ◌≤◌, Bool, true, false, refl, sym, ap, ◌∙◌, arith, ◌&&◌, not, cond, List, [], ◌∷◌, ◌++◌, fold, length, nat_le, leb-true, inl, inr, All, All-append, and_from, and_parts, cases_Bool, le-leb, length-append, All-cons, All-head, All-nil, All-tail, mem-rising_list, rising_list-rises, Within, count, mem, rising_list, Set, complement}
+use Rattle.graph_core.proofs.from_counting.Common.{◌≡◌, ℕ, ◌≤◌, Bool, true, false, refl, sym, ap, ◌∙◌, arith, ◌&&◌, not, cond, List, [], ◌∷◌, ◌++◌, fold, length, nat_le, leb-true, inl, inr, All, All-append, and_from, and_parts, cases_Bool, le-leb, length-append, All-cons, All-head, All-nil, All-tail, mem-rising_list, rising_list-rises, Within, count, mem, rising_list, Set, complement}
 use Rattle.graph_core.proofs.Common.{nontrivial-same, tight-same, Graph, IsGraph, IsNontrivial, IsTight, canonical_shore, is_nontrivial, IsCanonicalCut, canonical_list, cuts_of, is_listed, with_cut}
 
 -- a step keeps what is in the list

@@ -1,6 +1,6 @@
 -- The cuts of all classes as a list, and the number of odd components off the list of all.
 -- Each is an induction over the list of what gives them.
-use Rattle.counting.proofs.Common.{◌≡◌, ℕ, suc, zero, ◌+◌, ◌≤◌, Bool, refl, ap, ap₂, ◌∙◌, arith, ◌&&◌, cond, List, [], ◌∷◌, map, length, fold, flat_map, take, count_by, sum_by-append, map-append, take_all, length-rising_list, bit, count, is_odd, mem, rising_list, Set}
+use Rattle.graph_core.proofs.from_counting.Common.{◌≡◌, ℕ, suc, zero, ◌+◌, ◌≤◌, Bool, refl, ap, ap₂, ◌∙◌, arith, ◌&&◌, cond, List, [], ◌∷◌, map, length, fold, flat_map, take, count_by, sum_by-append, map-append, take_all, length-rising_list, bit, count, is_odd, mem, rising_list, Set}
 use Rattle.graph_core.proofs.Common.{components, is_least, odd_component_count, Graph, classes, joined, with_cut}
 use Rattle.barrier_kit.specs.Common.{barrier_cuts, barrier_shores}
 

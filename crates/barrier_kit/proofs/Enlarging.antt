@@ -1,12 +1,12 @@
 -- A barrier grows by a vertex v of an odd component K if K - v has no perfect matching. By the
 -- theorem of Tutte and Berge, K - v has a set that shows this; together with the barrier and v it
 -- is a barrier.
-use Rattle.counting.proofs.Common.{◌≡◌, ℕ, suc, zero, ◌+◌, ◌≤◌, Bool, true, false, ◌==◌, refl, sym, ap, ap₂, ◌∙◌, arith, ◌&&◌, ◌||◌, not, ne_eqb, eqb-true, inl, inr, nat_lt, List, [], ◌∷◌, same_tests, cases_eq, false_from_ne_true, both_ways, count_singleton, some_congr, count_complement, count_congr, odd-add, total_add, total_congr, Within, bit, count, is_odd, Set, complement, minus, none, singleton, union}
+use Rattle.graph_core.proofs.from_counting.Common.{◌≡◌, ℕ, suc, zero, ◌+◌, ◌≤◌, Bool, true, false, ◌==◌, refl, sym, ap, ap₂, ◌∙◌, arith, ◌&&◌, ◌||◌, not, ne_eqb, eqb-true, inl, inr, nat_lt, List, [], ◌∷◌, same_tests, cases_eq, false_from_ne_true, both_ways, count_singleton, some_congr, count_complement, count_congr, odd-add, total_add, total_congr, Within, bit, count, is_odd, Set, complement, minus, none, singleton, union}
 use Rattle.barrier_kit.proofs.BarrierCuts.{leader_same, leads_out}
 use Rattle.barrier_kit.proofs.Barriers.{few_odd_components, odd_component_count-parity}
 use Rattle.graph_core.proofs.Common.{none_missed-perfect, joined_outside, joined_walk, walk_joined, adjacent-edge, adjacent_back, adjacent_from, adjacent_within, joined_on, joined_self, is_least, odd_component_count, Graph, IsGraph, IsPerfect, missed_count, IsBarrier, Joined, Walk, adjacent, joined}
 use Rattle.barrier_kit.proofs.Matched.{even_order}
-use Rattle.match_core.proofs.TutteBerge.{TutteBerge, tutte_berge}
+use Rattle.graph_facts.proofs.from_match_core.TutteBerge.{TutteBerge, tutte_berge}
 
 walk_into : (g : Graph) (s t q : Set) → IsGraph g → ((v : ℕ) → Within g.order v → q v ≡ true → s v ≡ t v) → ((u v : ℕ) → q u ≡ true → adjacent g s u v ≡ true → q v ≡ true) →
     (ws : List ℕ) (u v : ℕ) → q u ≡ true → Walk (adjacent g s) u ws v → Walk (adjacent g t) u ws v

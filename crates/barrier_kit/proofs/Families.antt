@@ -1,6 +1,6 @@
 -- Sets of vertices apart, each with a perfect matching of its own: their union has one.
 -- The matchings are put side by side; a count over the family shows that each vertex is met once.
-use Rattle.counting.proofs.Common.{◌≡◌, ℕ, suc, zero, ◌≤◌, Bool, true, false, refl, arith, ◌&&◌, ◌||◌, not, true≢false, and_parts, some_true, total_none, Within, Set, complement, none, union, some}
+use Rattle.graph_core.proofs.from_counting.Common.{◌≡◌, ℕ, suc, zero, ◌≤◌, Bool, true, false, refl, arith, ◌&&◌, ◌||◌, not, true≢false, and_parts, some_true, total_none, Within, Set, complement, none, union, some}
 use Rattle.barrier_kit.proofs.Matched.{glue, perfect_congr}
 use Rattle.graph_core.proofs.Common.{Graph, IsGraph, size, IsPerfect}
 

@@ -1,7 +1,7 @@
 -- The first cut of a list stays the first while shores add more. A step leaves the list or
 -- appends to it; so the first cut of the first classes is the first of all.
 use Rattle.std.proofs.Common.{◌≡◌, ℕ, sym, ap, ◌∙◌, List, [], ◌∷◌, ◌++◌, Some, None, flat_map, fold, take, slice_get, length, ◌≤◌, ◌<◌, ◌+◌, get_or, append-nil, take-append-drop, arith}
-use Rattle.counting.proofs.Common.{flat_map-append, fold-append, take_more, mem}
+use Rattle.graph_core.proofs.from_counting.Common.{flat_map-append, fold-append, take_more, mem}
 use Rattle.graph_core.proofs.Common.{components, Graph, classes, with_cut}
 use Rattle.barrier_kit.proofs.CutLists.{barrier_cuts-all}
 use Rattle.barrier_kit.specs.Common.{barrier_cuts, barrier_shores}

@@ -1,7 +1,7 @@
 -- Hall's theorem: where each part of a set has at least as many neighbours, each member gets a
 -- neighbour of its own. By induction on the set: either some proper part is just met, and both
 -- sides are done apart, or one member takes any neighbour.
-use Rattle.counting.proofs.Common.{◌≡◌, ℕ, suc, zero, ◌+◌, ◌≤◌, ◌<◌, ◌≢◌, Bool, true, false, cond, ◌==◌, refl, ap, ◌∙◌, arith, ◌&&◌, ◌||◌, not, eq-eqb, eqb-true, nat_lt, lt-ltb, ltb-true, inl, inr, cases_eq, false_from_ne_true, both_ways, and_parts, and_from, Respects, choose_set, count_congr, count_le_one, count_of_one, count_member, count_minus, count_zero, member_count, count_singleton, count_mono, some_congr, some_true, true_some, some_or, total_add, total_congr, total_le, total_none, total_swap, total_tight, Within, bit, count, total, Set, meet, minus, singleton, union, some}
+use Rattle.graph_core.proofs.from_counting.Common.{◌≡◌, ℕ, suc, zero, ◌+◌, ◌≤◌, ◌<◌, ◌≢◌, Bool, true, false, cond, ◌==◌, refl, ap, ◌∙◌, arith, ◌&&◌, ◌||◌, not, eq-eqb, eqb-true, nat_lt, lt-ltb, ltb-true, inl, inr, cases_eq, false_from_ne_true, both_ways, and_parts, and_from, Respects, choose_set, count_congr, count_le_one, count_of_one, count_member, count_minus, count_zero, member_count, count_singleton, count_mono, some_congr, some_true, true_some, some_or, total_add, total_congr, total_le, total_none, total_swap, total_tight, Within, bit, count, total, Set, meet, minus, singleton, union, some}
 use Rattle.barrier_kit.specs.Common.{Picks, neighbours}
 
 module _ (n : ℕ) (f : ℕ → ℕ → Bool) where

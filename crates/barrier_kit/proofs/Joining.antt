@@ -2,7 +2,7 @@
 -- matching, where each vertex set that is neither empty nor all has an edge of some perfect
 -- matching in its cut. Hall's theorem gives the other vertices of the barrier different components,
 -- to which allowed edges lead, and the matchings of the components are joined.
-use Rattle.counting.proofs.Common.{◌≡◌, ℕ, ◌+◌, ◌*◌, ◌≤◌, Bool, true, false, ◌==◌, refl, sym, ap, ◌∙◌, arith, ◌&&◌, ◌||◌, not, eq-eqb, ne_eqb, eqb-true, ◌⊎◌, inl, inr, cases_eq, cases_Bool, false_from_ne_true, both_ways, and_parts, and_from, count_member, count_minus, count_zero, count_singleton, some_true, true_some, at_le_total, total_add, total_congr, total_le, total_none, and_fails_second, same_tests, Within, bit, count, Set, complement, meet, minus, none, singleton, union, some}
+use Rattle.graph_core.proofs.from_counting.Common.{◌≡◌, ℕ, ◌+◌, ◌*◌, ◌≤◌, Bool, true, false, ◌==◌, refl, sym, ap, ◌∙◌, arith, ◌&&◌, ◌||◌, not, eq-eqb, ne_eqb, eqb-true, ◌⊎◌, inl, inr, cases_eq, cases_Bool, false_from_ne_true, both_ways, and_parts, and_from, count_member, count_minus, count_zero, count_singleton, some_true, true_some, at_le_total, total_add, total_congr, total_le, total_none, and_fails_second, same_tests, Within, bit, count, Set, complement, meet, minus, none, singleton, union, some}
 use Rattle.barrier_kit.proofs.BarrierCuts.{cover_in, covers, covers_out, cut_family, leader_of, leader_same, leads_out, many_parts, one_cut, part_out, sat_inside}
 use Rattle.barrier_kit.proofs.Families.{glue_family}
 use Rattle.barrier_kit.proofs.Hall.{hall, hits}

@@ -2,9 +2,9 @@
 -- before it holds it. A class is met by its least vertex, and by transitivity a vertex that was met
 -- adds no vertex to those met.
 use Rattle.std.proofs.Common.{◌≡◌, ℕ, suc, ◌+◌, ◌<◌, ◌≤◌, ◌↔◌, Bool, true, false, refl, sym, ap, ◌∙◌, arith, ◌&&◌, ◌||◌, not, cond, List, [], ◌∷◌, ◌++◌, map, nat_lt, ltb-true, lt-ltb, subst, append-nil}
-use Rattle.counting.proofs.Common.{same_tests, cases_Bool, and_parts, and_from, both_ways, false_from_ne_true, map-append, rising_only, mem-rising_list, rising_list-rises, same_rising_list, set-wider, some_true, true_some, Within, IsRisingIn, mem, rising_list, Set, none, some}
+use Rattle.graph_core.proofs.from_counting.Common.{same_tests, cases_Bool, and_parts, and_from, both_ways, false_from_ne_true, map-append, rising_only, mem-rising_list, rising_list-rises, same_rising_list, set-wider, some_true, true_some, Within, IsRisingIn, mem, rising_list, Set, none, some}
 use Rattle.graph_core.proofs.Common.{has_perfect_found, is_equivalent_found, is_equivalent_says, IsCovered, Graph, IsGraph, HasPerfect, has_perfect, classes, is_equivalent, is_least_of_class}
-use Rattle.match_core.specs.Common.{are_partners}
+use Rattle.graph_facts.specs.from_match_core.Common.{are_partners}
 use Rattle.barrier_kit.proofs.ClassLaw.{equivalent_on}
 use Rattle.barrier_kit.proofs.Matched.{perfect_congr}
 

@@ -1,8 +1,8 @@
 -- Small facts on perfect matchings without a set of vertices, and on counts that are tight. Where
 -- each term is at least one and the sum is no more than the number of terms, each term is one.
-use Rattle.counting.proofs.Common.{◌≡◌, ℕ, ◌+◌, ◌≤◌, ◌≢◌, Bool, true, false, ◌==◌, refl, sym, ap, ◌∙◌, arith, ◌&&◌, ◌||◌, not, eq-eqb, cases_Bool, true≢false, false_from_ne_true, both_ways, not-false, not-true, count_complement, count_zero, odd-double, some_none, some_true, at_le_total, total_add, total_congr, total_none, alike_not_apart, Within, bit, count, is_odd, Set, complement, none, union, some}
+use Rattle.graph_core.proofs.from_counting.Common.{◌≡◌, ℕ, ◌+◌, ◌≤◌, ◌≢◌, Bool, true, false, ◌==◌, refl, sym, ap, ◌∙◌, arith, ◌&&◌, ◌||◌, not, eq-eqb, cases_Bool, true≢false, false_from_ne_true, both_ways, not-false, not-true, count_complement, count_zero, odd-double, some_none, some_true, at_le_total, total_add, total_congr, total_none, alike_not_apart, Within, bit, count, is_odd, Set, complement, none, union, some}
 use Rattle.graph_core.proofs.Common.{degree-inside, degree-inside_off, perfect_matching, perfect_misses, ends_le_degree, ends_of, missed_edges, parted, IsCovered, Graph, IsGraph, degree, edges_in_cut, first_end, in_cut, inside, second_end, size, IsPerfect}
-use Rattle.match_search.proofs.NearPerfectSets.{ends_far, ends_near}
+use Rattle.graph_facts.proofs.from_match_search.NearPerfectSets.{ends_far, ends_near}
 
 abbrev pub inner : Graph → Set → Set → ℕ
 inner g m x = count (size g) (λ e. m e && inside g x e)

@@ -1,7 +1,7 @@
 -- The shores of the classes: each is tight, none is nontrivial in a bicritical graph, and in
 -- another that is not bipartite some is. A class is a barrier, and what is true of each component
 -- of each class is true of each item of the list.
-use Rattle.counting.proofs.Common.{◌≡◌, ◌≢◌, ℕ, ◌≤◌, true, false, refl, sym, ap, arith, ◌&&◌, not, inl, inr, List, [], map, nat_lt, ltb-true, All, rules, and_parts, both_ways, false_from_ne_true, All-map, two_members, mem-rising_list, least_true, some_true, true_some, Within, count, mem, rising_list, Set, some}
+use Rattle.graph_core.proofs.from_counting.Common.{◌≡◌, ◌≢◌, ℕ, ◌≤◌, true, false, refl, sym, ap, arith, ◌&&◌, not, inl, inr, List, [], map, nat_lt, ltb-true, All, rules, and_parts, both_ways, false_from_ne_true, All-map, two_members, mem-rising_list, least_true, some_true, true_some, Within, count, mem, rising_list, Set, some}
 use Rattle.graph_core.proofs.Common.{is_equivalent_found, is_equivalent_says, nontrivial-same, tight-same, components, is_least, IsCovered, Graph, HasNoLoop, IsGraph, IsBicritical, IsClass, classes, is_equivalent, is_least_of_class, IsNontrivial, IsTight, canonical_shore, is_nontrivial, joined, IsSide, IsCanonicalCut}
 use Rattle.barrier_kit.specs.Common.{BarrierCut, WideClass, barrier_cuts, barrier_shores}
 use Rattle.barrier_kit.proofs.AllOf.{all_flat, all_rising, flat_all, map_all, rising_all}

@@ -2,7 +2,7 @@
 -- Pulleyblank 1982).
 -- Stated by: barrier_kit, theorems.
 use Rattle.std.specs.Prelude.{◌≡◌, ◌≤◌, ℕ, false}
-use Rattle.counting.specs.Common.{Within, count, Set}
+use Rattle.graph_core.specs.from_counting.Common.{Within, count, Set}
 use Rattle.graph_core.specs.Common.{Graph, size, inside, IsClass, joined, IsTight, IsNontrivial}
 
 -- a component of g - s whose cut is tight and nontrivial

@@ -1,7 +1,7 @@
 -- The cuts that the classes of a covered graph give (Edmonds, Lovász and Pulleyblank 1982).
 -- Stated by: barrier_kit, quick_kinds, tight_cuts.
 use Rattle.std.specs.Prelude.{ℕ, List, flat_map}
-use Rattle.counting.specs.Common.{mem}
+use Rattle.graph_core.specs.from_counting.Common.{mem}
 use Rattle.graph_core.specs.Common.{Graph, components, classes, cuts_of}
 
 -- for each class B by least vertex, each component of G - B by least vertex

@@ -1,7 +1,7 @@
 -- Choices as in Hall's theorem (Hall 1935): different members of a set get different partners.
 -- Stated by no contract. Used by: barrier_kit, quick_kinds, theorems.
 use Rattle.std.specs.Prelude.{◌≡◌, ℕ, Bool, true, ◌&&◌}
-use Rattle.counting.specs.Common.{Within, Set, some}
+use Rattle.graph_core.specs.from_counting.Common.{Within, Set, some}
 
 -- the members of c that f relates to some member of z
 abbrev pub neighbours : ℕ → (ℕ → ℕ → Bool) → Set → Set → Set

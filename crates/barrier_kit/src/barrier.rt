@@ -1,11 +1,11 @@
 //! Barriers.
 ghost use Rattle.std.specs.Prelude.{◌≡◌, ◌↔◌, IfOk, IsTrue, length, count_by};
-ghost use Rattle.counting.specs.Common.{is_odd, mem, IsRisingIn};
+ghost use Rattle.graph_core.specs.from_counting.Common.{is_odd, mem, IsRisingIn};
 ghost use Rattle.graph_core.specs.Common.{IsBarrier};
 
 use graph_core::MultiGraph;
+use graph_core::vset_core::VSet;
 use std::alloc::{AllocError as Memory, Global};
-use vset_core::VSet;
 
 // Whether the set has an odd number of members.
 fn is_odd_set(set: VSet) -> bool

@@ -1,12 +1,12 @@
 //! The canonical partition of a covered graph into its classes.
 ghost use Rattle.std.specs.Prelude.{◌≡◌, IfOk};
-ghost use Rattle.counting.specs.Common.{Within, rising_list};
+ghost use Rattle.graph_core.specs.from_counting.Common.{Within, rising_list};
 ghost use Rattle.graph_core.specs.Common.{IsCovered, classes, is_equivalent};
 
+use graph_core::vset_core::VSet;
 use graph_core::{MultiGraph, SetList};
 use graph_facts::Covered;
 use std::alloc::{AllocError as Memory, Global};
-use vset_core::VSet;
 
 /// The canonical partition of a covered graph: its classes by least vertex. Two vertices u and v
 /// are in one class if they are equal or G - u - v has no perfect matching (Kotzig 1959; Lovász and

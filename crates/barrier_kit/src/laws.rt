@@ -1,6 +1,6 @@
 //! The laws of barriers and classes. Each law is the contract of a function that does nothing.
 ghost use Rattle.std.specs.Prelude.{◌≡◌, ◌≢◌, ℕ, true, false, ◌⊎◌, ◌↔◌, ◌≤◌, All, []};
-ghost use Rattle.counting.specs.Common.{Within, count, is_odd, mem, Set};
+ghost use Rattle.graph_core.specs.from_counting.Common.{Within, count, is_odd, mem, Set};
 ghost use Rattle.graph_core.specs.Common.{Graph, IsBipartite, IsGraph, IsMultigraph, size, first_end, second_end, inside, joined, component_count, IsCovered, IsTight, Equivalent, IsBarrier, IsBicritical, IsClass, IsCanonicalCut};
 ghost use Rattle.barrier_kit.specs.Common.{WideClass, barrier_cuts, barrier_shores};
 

@@ -18,7 +18,10 @@ mod canonical_partition;
 mod laws;
 mod shores;
 
+// Passed on to the crates above.
 pub use barrier::is_barrier;
 pub use canonical_partition::{classes, classes_of};
+pub use graph_facts;
+pub use graph_facts::{allowed_edges, match_core, match_search};
 pub use laws::{barrier_cuts_law, barrier_law, class_law, equivalence_law, wide_class_law};
 pub use shores::{barrier_cuts, barrier_cuts_of, first_barrier_cut, first_barrier_cut_from};

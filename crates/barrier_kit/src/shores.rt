@@ -1,14 +1,14 @@
 //! The cuts that the classes of a covered graph give.
 ghost use Rattle.std.specs.Prelude.{◌≡◌, fold, slice_get, IfOk, OnOk};
-ghost use Rattle.counting.specs.Common.{mem};
+ghost use Rattle.graph_core.specs.from_counting.Common.{mem};
 ghost use Rattle.graph_core.specs.Common.{with_cut, classes, components, IsCovered};
 ghost use Rattle.barrier_kit.specs.Common.{barrier_cuts};
 
 use crate::canonical_partition::classes_of;
+use graph_core::vset_core::VSet;
 use graph_core::{MultiGraph, SetList, add_cuts};
 use graph_facts::Covered;
 use std::alloc::{AllocError as Memory, Global};
-use vset_core::VSet;
 
 // Appends the cuts that a class gives.
 fn add_class_cuts(alloc: Global, c: &Covered, class: VSet, cuts: &mut SetList) -> Result<(), Memory>

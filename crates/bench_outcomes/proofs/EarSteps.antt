@@ -1,9 +1,9 @@
 -- An ear list of a graph has no more steps than the graph has edges, since each step adds an edge
 -- to the stage before it.
-use Rattle.counting.proofs.Common.{◌+◌, ◌≤◌, List, [], ◌∷◌, length, arith, count, Set, singleton, count_le}
+use Rattle.tree_check.proofs.from_counting.Common.{◌+◌, ◌≤◌, List, [], ◌∷◌, length, arith, count, Set, singleton, count_le}
 use Rattle.graph_core.proofs.Common.{Graph, size}
-use Rattle.ear_core.specs.Common.{PlainEars, PlainStep, next_stage, AreSteps, IsEarList}
-use Rattle.ear_core.proofs.FirstStage.{step-adds}
+use Rattle.bench_tasks.specs.from_ear_core.Common.{PlainEars, PlainStep, next_stage, AreSteps, IsEarList}
+use Rattle.bench_tasks.proofs.from_ear_core.FirstStage.{step-adds}
 
 -- the edges of the first stage and the steps are at most the edges of the graph
 few-from : (g : Graph) (f : Set) (steps : List PlainStep) → AreSteps g f steps → count (size g) f + length steps ≤ size g

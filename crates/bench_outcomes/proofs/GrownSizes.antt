@@ -1,12 +1,12 @@
 -- A graph grown from at most sixteen pieces has at most 64 vertices: the numbers of vertices are
 -- those of the pieces, each less two, wherever these are spliced. And it has few edges, as each
 -- graph on the way.
-use Rattle.counting.proofs.Common.{◌≡◌, ℕ, zero, suc, ◌+◌, ◌-◌, ◌≤◌, nat_le, true, refl, sym, subst, arith, leb-true, every_true}
+use Rattle.tree_check.proofs.from_counting.Common.{◌≡◌, ℕ, zero, suc, ◌+◌, ◌-◌, ◌≤◌, nat_le, true, refl, sym, subst, arith, leb-true, every_true}
 use Rattle.graph_core.proofs.Common.{IsMultigraph, size}
 use Rattle.rand_pcg.specs.Lcg.{Lcg, started, increment_of}
 use Rattle.rand_pcg.specs.Pcg.{multiplier_64, pcg32}
-use Rattle.grow_gen.specs.Common.{Growth, first_growth, growth_from, grown, with_piece, further_piece, piece_order, splice}
-use Rattle.grow_gen.proofs.SoundGrowth.{IsSound, sound-first, sound-next}
+use Rattle.bench_tasks.specs.from_grow_gen.Common.{Growth, first_growth, growth_from, grown, with_piece, further_piece, piece_order, splice}
+use Rattle.bench_tasks.proofs.from_grow_gen.SoundGrowth.{IsSound, sound-first, sound-next}
 
 -- a number of vertices with so many pieces from piece i on
 order_from : ℕ → ℕ → ℕ → ℕ

@@ -1,13 +1,13 @@
 -- The result of a task is determined by whether it succeeds: success, or a refusal, which is then
 -- possible. A refused tree is not a derivation, a refused list not an ear list, and moves that fail
 -- lead through no derivations to a last tree.
-use Rattle.counting.proofs.Common.{◌≡◌, ◌∙◌, ℕ, List, [], ◌∷◌, ◌⊎◌, inl, inr, sym, subst, none-some, same_Some, singleton}
+use Rattle.tree_check.proofs.from_counting.Common.{◌≡◌, ◌∙◌, ℕ, List, [], ◌∷◌, ◌⊎◌, inl, inr, sym, subst, none-some, same_Some, singleton}
 use Rattle.graph_core.proofs.Common.{Graph, IsGraph, IsMultigraph, IsCovered}
-use Rattle.tree_core.proofs.Common.{IsDerivation, PlainMove, TurnsThrough, Shape}
+use Rattle.tree_check.proofs.from_tree_core.Common.{IsDerivation, PlainMove, TurnsThrough, Shape}
 use Rattle.tree_check.specs.Common.{Why, IsRefused, IsStuckAt, IsRefusedMoveAt}
 use Rattle.tree_check.proofs.FirstRefusals.{refused-not_derived}
-use Rattle.ear_core.proofs.Refusing.{refusal-none}
-use Rattle.graph_text.specs.Common.{NamedGraph}
+use Rattle.bench_tasks.proofs.from_ear_core.Refusing.{refusal-none}
+use Rattle.bench_tasks.specs.from_graph_text.Common.{NamedGraph}
 use Rattle.bench_outcomes.specs.Common.{RefusesTree, RefusesPair, DecomposeGives, ResultOf, TaskMayRefuse, Succeeds}
 use Rattle.bench_tasks.specs.Common.{Task}
 use Rattle.bench_tasks.specs.Tasks as task
@@ -19,7 +19,7 @@ use Rattle.bench_tasks.specs.declared.verbs.EarsVerb.TheVariants.{CheckEars}
 use Rattle.bench_tasks.specs.declared.verbs.MovesVerb.TheVariants.{Replay}
 use Rattle.bench_tasks.specs.declared.verbs.TreesVerb.TheVariants.{Compare, Script}
 use Rattle.bench_tasks.specs.declared.verbs.NumbersVerb.TheVariants.{Grow}
-use Rattle.tight_cuts.specs.Common.{Candidate}
+use Rattle.tree_check.specs.from_tight_cuts.Common.{Candidate}
 use Rattle.bench_outcomes.specs.declared.status.Status.{Status}
 use Rattle.bench_outcomes.specs.declared.status.Status.TheVariants.{Done, Negative}
 

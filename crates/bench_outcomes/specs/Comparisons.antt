@@ -5,10 +5,10 @@
 -- Stated by: bench_reports. Used by: bench_outcomes, bench_top, theorems.
 use Rattle.std.specs.Prelude.{◌≡◌, ◌≤◌, ◌*◌, ◌⊎◌, ℕ, suc, List, [], ◌∷◌, length, Option, Some, None}
 use Rattle.graph_core.specs.Common.{Graph, names_of}
-use Rattle.line_text.specs.Common.{Stands}
-use Rattle.tree_core.specs.Common.{IsDerivation, PlainLeafMap, script_maps, leaves, PlainMove, TurnsThrough, Shape, cut_count, leaf_count}
-use Rattle.move_text.specs.Common.{move_format, moves_text}
-use Rattle.move_laws.specs.Common.{IsPairing}
+use Rattle.graph_core.specs.from_line_text.Common.{Stands}
+use Rattle.tree_check.specs.from_tree_core.Common.{IsDerivation, PlainLeafMap, script_maps, leaves, PlainMove, TurnsThrough, Shape, cut_count, leaf_count}
+use Rattle.bench_tasks.specs.from_move_text.Common.{move_format, moves_text}
+use Rattle.tree_check.specs.from_move_laws.Common.{IsPairing}
 use Rattle.report_text.specs.Common.{pairing_text, script_report_text}
 use Rattle.report_text.specs.declared.comparisons.MapLine.{MapLine}
 use Rattle.bench_outcomes.specs.Checks.{RefusedTree}

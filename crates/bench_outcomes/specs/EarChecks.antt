@@ -4,8 +4,8 @@
 use Rattle.std.specs.Prelude.{◌≡◌, ◌⊎◌, ℕ, List, length, count_by, not, Bool, true, false, Option}
 use Rattle.std.specs.List.{AllByRecursion}
 use Rattle.graph_core.specs.Common.{IsCovered, Graph, size, IsBipartite}
-use Rattle.ear_core.specs.Common.{PlainEars, PlainStep, one, two, IsEarList, IsSingle, IsUnrefinable, TakesSingles, PlainWhy, IsRefused}
-use Rattle.ear_text.specs.Writing.{ears_text}
+use Rattle.bench_tasks.specs.from_ear_core.Common.{PlainEars, PlainStep, one, two, IsEarList, IsSingle, IsUnrefinable, TakesSingles, PlainWhy, IsRefused}
+use Rattle.bench_tasks.specs.from_ear_text.Writing.{ears_text}
 use Rattle.report_text.specs.Common.{ears_report_text, ear_judgement_text}
 use Rattle.report_text.specs.declared.ear_judgements.EarLine.TheVariants as line
 use Rattle.bench_outcomes.specs.RefusalLines.{ear_fault_of, step_edge, step_number}

@@ -1,11 +1,11 @@
 -- What the lines of a report claim of a graph.
 -- Stated by: bench_reports. Used by: bench_outcomes, bench_top, theorems.
 use Rattle.std.specs.Prelude.{◌≡◌, ◌↔◌, ℕ, IsTrue, Option, Some, None, option_map}
-use Rattle.counting.specs.Common.{count, Set, none, Lists}
+use Rattle.tree_check.specs.from_counting.Common.{count, Set, none, Lists}
 use Rattle.graph_core.specs.Common.{Graph, size, IsBipartite, component_count, Allowed, IsMaximum, missed_count, InD, InA, InC, classes, cut_pair, equivalent_pair, IsVerdict, pair_of}
 use Rattle.graph_core.specs.declared.verdict.Verdict.{Verdict}
 use Rattle.graph_core.specs.declared.verdict.Verdict.TheVariants.{Covered, NotCovered}
-use Rattle.tight_cuts.specs.Common.{candidates, first_shore}
+use Rattle.tree_check.specs.from_tight_cuts.Common.{candidates, first_shore}
 use Rattle.leaf_kinds.specs.LeafKinds.{IsKind, cut_of}
 use Rattle.report_text.specs.declared.analyses.AnalysisLines.{AnalysisLines}
 use Rattle.report_text.specs.declared.structures.Structure.{Structure}

@@ -5,7 +5,7 @@ use Rattle.graph_core.specs.declared.verdict.Reason.{Reason}
 use Rattle.graph_core.specs.declared.verdict.Reason.TheVariants as reason
 use Rattle.graph_core.specs.declared.verdict.Verdict.TheVariants.{NotCovered}
 use Rattle.tree_check.specs.Common.{Why, not_blocks, even, trivial, not_tight, not_leaf}
-use Rattle.ear_core.specs.Common.{PlainWhy, not_path, even_length, bad_ends, inner_on_stage, edge_used, stage_not_covered, ends_early}
+use Rattle.bench_tasks.specs.from_ear_core.Common.{PlainWhy, not_path, even_length, bad_ends, inner_on_stage, edge_used, stage_not_covered, ends_early}
 use Rattle.report_text.specs.Common.{numbered, verdict_text, ear_judgement_text, stuck_text}
 use Rattle.report_text.specs.declared.ear_judgements.EarLine.TheVariants as line
 use Rattle.refusals.specs.declared.faults.CoverFault.{CoverFault}

@@ -15,5 +15,12 @@
 mod report;
 mod status;
 
+// Passed on to the crates above.
+pub use bench_tasks;
+pub use bench_tasks::decomposer;
+pub use leaf_kinds;
 pub use report::Report;
+pub use report_text;
 pub use status::Status;
+pub use tree_check;
+pub use tree_check::{barrier_kit, separation_kit};

@@ -1,13 +1,13 @@
 -- In a derivation no Rotate is stuck at two shores that cross: a cut that is the `merged` child of
 -- another was found where the other's shore is one block, so its shore contains that block or does
 -- not meet it.
-use Rattle.counting.proofs.Common.{◌≡◌, ◌∙◌, ◌≢◌, inl, inr, List, [], ◌∷◌, ℕ, true, false, not, ◌&&◌, sym, subst, ap, None, everything, is_apart, is_subset, mem, mem-within, member-of_set, minus, true_all_in}
+use Rattle.move_text.proofs.from_counting.Common.{◌≡◌, ◌∙◌, ◌≢◌, inl, inr, List, [], ◌∷◌, ℕ, true, false, not, ◌&&◌, sym, subst, ap, None, everything, is_apart, is_subset, mem, mem-within, member-of_set, minus, true_all_in}
 use Rattle.graph_core.proofs.Common.{Graph, IsPartition, inside_or_apart, merged, merged_merges, singles, singles-partition}
 use Rattle.refusals.specs.declared.faults.StuckFault.{StuckFault}
 use Rattle.refusals.specs.declared.faults.StuckFault.TheVariants.{Crossing}
-use Rattle.tree_core.proofs.Common.{IsCutAt, IsDerivation, IsDerivationAt, PlainMove, Shape, cut, cut-below, cut-nonempty, kept_at, leaf, merged_at, move_result, partition-kept, partition-merged, rotate_at, switch_at}
-use Rattle.tree_core.specs.declared.path.Side.{Side}
-use Rattle.tree_core.specs.declared.path.Side.TheVariants.{Kept, Merged}
+use Rattle.move_text.proofs.from_tree_core.Common.{IsCutAt, IsDerivation, IsDerivationAt, PlainMove, Shape, cut, cut-below, cut-nonempty, kept_at, leaf, merged_at, move_result, partition-kept, partition-merged, rotate_at, switch_at}
+use Rattle.move_text.specs.from_tree_core.declared.path.Side.{Side}
+use Rattle.move_text.specs.from_tree_core.declared.path.Side.TheVariants.{Kept, Merged}
 use Rattle.bench_outcomes.specs.Common.{CrossesParent, IsStuckBy, stuck_fault}
 use Rattle.bench_reports.proofs.StuckMoves.{stuck_by}
 

@@ -4,10 +4,10 @@ use Rattle.std.proofs.Common.{◌≡◌, ◌∙◌, ℕ, List, ◌++◌, length,
 use Rattle.graph_core.specs.declared.verdict.Reason.{Reason}
 use Rattle.graph_core.specs.declared.verdict.Reason.TheVariants.{Small, Parted, Unmatched, Unallowed}
 use Rattle.graph_core.specs.declared.verdict.Verdict.TheVariants.{NotCovered}
-use Rattle.tree_check.specs.Common.{Why, not_blocks, even, trivial, not_tight, not_leaf, why_number}
-use Rattle.report_text.specs.Common.{judgement_text, refused_move_text, refused_line, shown_text, verdict_text, numbers_text}
-use Rattle.report_text.specs.declared.judgements.Shown.{Shown}
-use Rattle.report_text.specs.declared.judgements.TreeLine.TheVariants as tree
+use Rattle.bench_outcomes.specs.from_tree_check.Common.{Why, not_blocks, even, trivial, not_tight, not_leaf, why_number}
+use Rattle.bench_outcomes.specs.from_report_text.Common.{judgement_text, refused_move_text, refused_line, shown_text, verdict_text, numbers_text}
+use Rattle.bench_outcomes.specs.from_report_text.declared.judgements.Shown.{Shown}
+use Rattle.bench_outcomes.specs.from_report_text.declared.judgements.TreeLine.TheVariants as tree
 use Rattle.bench_outcomes.specs.Common.{begun_by, cover_fault_of, cover_told, node_fault_of, node_number, refused_words}
 
 -- a text that begins with the words is the one with the words at its beginning

@@ -1,7 +1,7 @@
 -- What a task gives is a report: it is done or refused; and it is refused only if it may be. Each
 -- is read off how the task is settled.
 use Rattle.std.proofs.Common.{◌≡◌, Result, IfOk, arith}
-use Rattle.bench_tasks.specs.Common.{Task}
+use Rattle.bench_outcomes.specs.from_bench_tasks.Common.{Task}
 use Rattle.bench_outcomes.specs.Common.{IsReported, ResultOf, TaskMayRefuse}
 use Rattle.bench_outcomes.specs.declared.report.Report.{Report}
 use Rattle.bench_outcomes.specs.declared.status.Status.{Status}

@@ -1,13 +1,13 @@
 -- A text that stands for a value stands for it with comments after it, and so the report on a
 -- script stands for the script.
 use Rattle.std.proofs.Common.{◌≡◌, ℕ, ◌<◌, ◌^◌, List, [], ◌∷◌, ◌++◌, map, true, length, refl, sym, subst, append_assoc, codes, arith, decimal}
-use Rattle.line_text.specs.Common.{Stands, is_closed, written, unwords}
-use Rattle.line_text.proofs.Decimals.{is_word-decimal}
-use Rattle.line_text.proofs.ReadBack.{AreSkipped-written, Stands-comments, is_closed-unlines}
+use Rattle.graph_core.specs.from_line_text.Common.{Stands, is_closed, written, unwords}
+use Rattle.graph_core.proofs.from_line_text.Decimals.{is_word-decimal}
+use Rattle.graph_core.proofs.from_line_text.ReadBack.{AreSkipped-written, Stands-comments, is_closed-unlines}
 use Rattle.graph_core.proofs.Common.{Graph}
-use Rattle.tree_core.proofs.Common.{PlainMove, Shape, leaf_count}
+use Rattle.move_text.proofs.from_tree_core.Common.{PlainMove, Shape, leaf_count}
 use Rattle.move_text.specs.Common.{move_format, header_words, move_words, moves_text}
-use Rattle.report_text.specs.Common.{script_line, script_report_text}
+use Rattle.bench_outcomes.specs.from_report_text.Common.{script_line, script_report_text}
 use Rattle.bench_outcomes.specs.Common.{IsScript, Scripted}
 use Rattle.bench_outcomes.specs.declared.status.Status.TheVariants.{Done}
 

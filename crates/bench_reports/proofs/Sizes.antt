@@ -1,7 +1,7 @@
 -- A matching that is maximum has as many edges as rows, and misses the vertices that are not ends
 -- of its rows. Each edge has two ends at different vertices, so the missed vertices and twice the
 -- edges make all vertices.
-use Rattle.counting.proofs.Common.{◌≡◌, ◌≤◌, ℕ, ◌+◌, ◌-◌, ◌*◌, length, ◌∙◌, arith, length-map, total_zero, count_complement, count_mem_length, count, none, mem}
+use Rattle.move_text.proofs.from_counting.Common.{◌≡◌, ◌≤◌, ℕ, ◌+◌, ◌-◌, ◌*◌, length, ◌∙◌, arith, length-map, total_zero, count_complement, count_mem_length, count, none, mem}
 use Rattle.graph_core.proofs.Common.{Graph, IsGraph, size, IsMaximum, missed_count, missed_edges}
 use Rattle.match_core.specs.Common.{MatchingValue, KeepsMatching, IsOf, edges_of}
 use Rattle.match_core.specs.declared.matching.MatchRow.{MatchRow}

@@ -1,20 +1,20 @@
 //! The comparison of two derivations of a graph, as `compare` and `script` report it.
 ghost use Rattle.std.specs.Prelude.{◌≡◌, ◌≤◌, ◌<◌, ◌+◌, ◌^◌, ◌∷◌, [], Err, IfOk, IfSome, length, map};
-ghost use Rattle.tree_core.specs.Common.{IsDerivation, moves_of, Fits, leaf_count, shape_of};
+ghost use Rattle.move_text.specs.from_tree_core.Common.{IsDerivation, moves_of, Fits, leaf_count, shape_of};
 ghost use Rattle.uncross.specs.Common.{map_of, maps_of};
 ghost use Rattle.bench_outcomes.specs.Common.{Compared, IsInTrees, IsOfGraph, RefusesPair, RefusesPairIfAny, Scripted, line_of, map_lines_of};
 
 use crate::checking::refusal_where_covered;
 use crate::uncovered::uncovered_report;
+use bench_outcomes::bench_tasks::GivenTrees;
+use bench_outcomes::report_text::{MapLine, MapLines, block_names, pairing};
+use bench_outcomes::tree_check::KnownPlaces;
 use bench_outcomes::{Report, Status};
-use bench_tasks::GivenTrees;
 use contraction::Partition;
-use graph_facts::Covered;
+use gallai_edmonds::graph_facts::Covered;
+use move_text::tree_core::{Partitions, Tree, leaves, nodes};
 use move_text::write_moves;
-use report_text::{MapLine, MapLines, block_names, pairing};
 use std::alloc::{AllocError as Memory, Global};
-use tree_check::KnownPlaces;
-use tree_core::{Partitions, Tree, leaves, nodes};
 use uncross::{LeafMap, LeafMaps, compare_covered, moves_between_covered};
 
 // The report that refuses one of two trees of a covered graph: the first tree is not a derivation
@@ -135,7 +135,12 @@ pub fn moves_script_report(alloc: Global, c: &Covered, given: &GivenTrees) -> Re
     let leaves = nodes(&given.first) / 2 + 1;
     Ok(Report {
         status: Status::Done,
-        bytes: report_text::script_report(alloc, &text, leaves as u32, moves.len() as u32)?,
+        bytes: bench_outcomes::report_text::script_report(
+            alloc,
+            &text,
+            leaves as u32,
+            moves.len() as u32,
+        )?,
         refusal: None,
     })
 }

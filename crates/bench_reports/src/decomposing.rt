@@ -1,20 +1,20 @@
 //! The decomposition of a graph by tight cuts, as `decompose` reports it.
 ghost use Rattle.std.specs.Prelude.{◌≡◌, ◌<◌, ◌≤◌, IfOk, length, map};
 ghost use Rattle.graph_text.specs.Common.{named_graph};
-ghost use Rattle.tree_core.specs.Common.{IsDerivation, leaves, place_of, shape_of};
-ghost use Rattle.decomposer.specs.Common.{ScriptPicks, IsPicked};
+ghost use Rattle.move_text.specs.from_tree_core.Common.{IsDerivation, leaves, place_of, shape_of};
+ghost use Rattle.bench_outcomes.specs.from_decomposer.Common.{ScriptPicks, IsPicked};
 ghost use Rattle.bench_outcomes.specs.Common.{DecomposeGives, IsOfGraph, TellsDerivation};
 
 use crate::naming::with_given_names;
 use crate::uncovered::uncovered_report;
+use bench_outcomes::decomposer::{Decomposition, Order, Scripted, decompose_places};
+use bench_outcomes::report_text::derivation_at;
 use bench_outcomes::{Report, Status};
-use decomposer::{Decomposition, Order, Scripted, decompose_places};
+use gallai_edmonds::graph_facts::Covered;
 use graph_core::Numbers;
-use graph_facts::Covered;
 use graph_text::Named;
-use report_text::derivation_at;
+use move_text::tree_text::write_tree;
 use std::alloc::{AllocError as Memory, Global};
-use tree_text::write_tree;
 
 // The text of a derivation, and then its leaves and the names as comments.
 fn derivation_report(alloc: Global, named: &Named, found: &Decomposition) -> Result<Report, Memory>

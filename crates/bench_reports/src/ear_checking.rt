@@ -1,17 +1,19 @@
 //! Ear lists of a graph, as `checkears` and `ears` report on them.
 ghost use Rattle.std.specs.Prelude.{◌≡◌, ◌<◌, ◌^◌, length, map, IfOk};
 ghost use Rattle.graph_core.specs.Common.{size};
-ghost use Rattle.ear_core.specs.Common.{FitsEars, IsEarList, IsRefused, ears_of, step_of, why_of};
+ghost use Rattle.ear_text.specs.from_ear_core.Common.{FitsEars, IsEarList, IsRefused, ears_of, step_of, why_of};
 ghost use Rattle.bench_outcomes.specs.Common.{AcceptedEars, BuiltEars, EarCheckGives, EarsGives, IsInEars, IsOfGraph, RefusedEars, double_count, ear_fault_of, named_edge, single_count, ear_why_number};
 
 use crate::uncovered::uncovered_report;
+use bench_outcomes::report_text::{EarLine, ear_judgement};
 use bench_outcomes::{Report, Status};
-use ear_core::{EarJudgement, EarList, EarWhy, Step, build_ears_of, check_ears_of, fault_place};
+use ear_text::ear_core::{
+    EarJudgement, EarList, EarWhy, Step, build_ears_of, check_ears_of, fault_place,
+};
 use ear_text::write_ears;
+use gallai_edmonds::graph_facts::Covered;
 use graph_core::MultiGraph;
-use graph_facts::Covered;
 use refusals::{EarFault, Refusal};
-use report_text::{EarLine, ear_judgement};
 use std::alloc::{AllocError as Memory, Global};
 
 // The number of a reason.
@@ -191,7 +193,7 @@ fn built_report(alloc: Global, c: &Covered) -> Result<Report, Memory>
         single,
         double,
     } = counts_of(list.steps.as_slice());
-    let bytes = report_text::ears_report(alloc, &text, steps, single, double)?;
+    let bytes = bench_outcomes::report_text::ears_report(alloc, &text, steps, single, double)?;
     Ok(Report {
         status: Status::Done,
         bytes,

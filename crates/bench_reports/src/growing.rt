@@ -2,13 +2,13 @@
 ghost use Rattle.std.specs.Prelude.{IfOk};
 ghost use Rattle.bench_outcomes.specs.Common.{Grown, IsOfGraph};
 
+use bench_outcomes::bench_tasks::GrowNumbers;
+use bench_outcomes::decomposer::{NamedOrder, VisitedPlaces};
+use bench_outcomes::report_text::grown;
 use bench_outcomes::{Report, Status};
-use bench_tasks::GrowNumbers;
-use decomposer::{NamedOrder, VisitedPlaces};
-use graph_facts::Covered;
+use gallai_edmonds::graph_facts::Covered;
 use graph_text::write_graph;
 use grow_gen::grow;
-use report_text::grown;
 use std::alloc::{AllocError as Memory, Global};
 use uncross::compare_covered;
 

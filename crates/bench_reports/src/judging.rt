@@ -1,8 +1,8 @@
 //! What a command makes of its inputs.
 ghost use Rattle.std.specs.Prelude.{◌≡◌, IfOk};
 ghost use Rattle.graph_text.specs.Common.{named_graph};
-ghost use Rattle.bench_tasks.specs.Common.{given_trees, simple_graph_in, on_trees, task_of};
-ghost use Rattle.bench_tasks.specs.Tasks.{OnGraph};
+ghost use Rattle.bench_outcomes.specs.from_bench_tasks.Common.{given_trees, simple_graph_in, on_trees, task_of};
+ghost use Rattle.bench_outcomes.specs.from_bench_tasks.Tasks.{OnGraph};
 ghost use Rattle.bench_outcomes.specs.Common.{HasMaximum, IsAnalysis, Analysed, Converted, Analysed6, IsOfGraph, IsPlaced, IsReported, ResultOf, TaskMayRefuse};
 
 use crate::checking::check_report;
@@ -13,17 +13,17 @@ use crate::growing::grow_report;
 use crate::naming::{given_or_plain, with_given_names};
 use crate::replaying::replay_report;
 use crate::structures::structure_where_covered;
-use bench_outcomes::{Report, Status};
-use bench_tasks::{
+use bench_outcomes::bench_tasks::{
     EarsVerb, GivenMoves, GivenTrees, GraphVerb, MovesVerb, NumbersVerb, PicksVerb, SimpleGraph,
     SimpleGraphVerb, Task, TreeVerb, TreesVerb,
 };
+use bench_outcomes::report_text::{AnalysisLines, analysis, graph6_line};
+use bench_outcomes::{Report, Status};
+use gallai_edmonds::graph_facts::Facts;
 use gallai_edmonds::sets_of;
 use graph_core::MultiGraph;
-use graph_facts::Facts;
 use graph_text::{Named, write_named};
 use graph6_text::write_graph6;
-use report_text::{AnalysisLines, analysis, graph6_line};
 use std::alloc::{AllocError as Memory, Global};
 
 // How many edges a maximum matching has, and how many vertices it misses.

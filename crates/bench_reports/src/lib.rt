@@ -23,4 +23,7 @@ mod structures;
 mod stuck_moves;
 mod uncovered;
 
+// Passed on to the crates above.
+pub use bench_outcomes;
+pub use bench_outcomes::bench_tasks;
 pub use judging::judge;

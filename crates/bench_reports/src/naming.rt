@@ -1,12 +1,12 @@
 //! The names of vertices in reports.
 ghost use Rattle.std.specs.Prelude.{◌≡◌, IfOk, length, true};
 ghost use Rattle.std.specs.Option.{ForSome};
-ghost use Rattle.report_text.specs.Common.{IsCommented};
+ghost use Rattle.bench_outcomes.specs.from_report_text.Common.{IsCommented};
 ghost use Rattle.bench_outcomes.specs.Common.{with_given_names, given_or_plain};
 
+use bench_outcomes::report_text::with_names;
 use graph_core::MultiGraph;
 use graph_text::{Names, plain_names};
-use report_text::with_names;
 use std::alloc::{AllocError as Memory, Global};
 
 /// The report, and then the names if the graph has names; each is a comment if `comments`

@@ -1,26 +1,26 @@
 //! What a script of moves makes of a derivation, as `replay` reports it.
 ghost use Rattle.std.specs.Prelude.{◌≡◌, ◌≤◌, ◌<◌, IfOk, Some, length};
 ghost use Rattle.std.specs.Option.{option_map};
-ghost use Rattle.tree_core.specs.Common.{IsDerivation, moves_of, Fits, Shape, node_count, shape_of};
-ghost use Rattle.tree_check.specs.Common.{why_of, why_number};
+ghost use Rattle.move_text.specs.from_tree_core.Common.{IsDerivation, moves_of, Fits, Shape, node_count, shape_of};
+ghost use Rattle.bench_outcomes.specs.from_tree_check.Common.{why_of, why_number};
 ghost use Rattle.move_text.specs.Common.{most_moves};
-ghost use Rattle.tree_text.specs.Common.{tree_text};
-ghost use Rattle.report_text.specs.Common.{refused_move_text, replayed_text, stuck_text};
+ghost use Rattle.move_text.specs.from_tree_text.Common.{tree_text};
+ghost use Rattle.bench_outcomes.specs.from_report_text.Common.{refused_move_text, replayed_text, stuck_text};
 ghost use Rattle.bench_outcomes.specs.Common.{HasNoResult, IsInMoves, IsNextMove, IsNodePlace, IsOfGraph, IsStuckBy, MovesGive, ReplayGives, made_by, node_fault_of, shown_of};
 
 use crate::checking::{node_fault_of, number_of, refusal_where_covered, shown_by};
 use crate::node_places::node_place;
 use crate::stuck_moves::stuck_fault;
 use crate::uncovered::uncovered_report;
+use bench_outcomes::report_text::{replay_refused, replay_stuck, replayed};
+use bench_outcomes::tree_check::{KnownPlaces, Replayed, Why, replay_covered};
 use bench_outcomes::{Report, Status};
+use gallai_edmonds::graph_facts::Covered;
 use graph_core::MultiGraph;
-use graph_facts::Covered;
+use move_text::tree_core::{Moves, Tree, apply, copy};
+use move_text::tree_text::write_tree;
 use refusals::{NodePlace, Refusal, StuckFault};
-use report_text::{replay_refused, replay_stuck, replayed};
 use std::alloc::{AllocError as Memory, Global};
-use tree_check::{KnownPlaces, Replayed, Why, replay_covered};
-use tree_core::{Moves, Tree, apply, copy};
-use tree_text::write_tree;
 
 // The text of the last tree, and then the number of moves.
 fn last_tree_report(

@@ -3,12 +3,12 @@ ghost use Rattle.std.specs.Prelude.{IfOk};
 ghost use Rattle.graph_core.specs.Common.{IsVerdict};
 ghost use Rattle.bench_outcomes.specs.Common.{IsStructure, TellsStructure};
 
-use barrier_kit::classes_of;
+use bench_outcomes::barrier_kit::classes_of;
+use bench_outcomes::leaf_kinds::kind_of;
+use bench_outcomes::report_text::Structure;
+use bench_outcomes::separation_kit::FirstPairs;
+use gallai_edmonds::graph_facts::{Covered, Facts};
 use graph_core::Verdict;
-use graph_facts::{Covered, Facts};
-use leaf_kinds::kind_of;
-use report_text::Structure;
-use separation_kit::FirstPairs;
 use std::alloc::{AllocError as Memory, Global};
 
 // The structure of a covered graph.

@@ -3,10 +3,10 @@ ghost use Rattle.std.specs.Prelude.{◌≡◌, IfOk};
 ghost use Rattle.graph_core.specs.Common.{IsReason, reason_of};
 ghost use Rattle.bench_outcomes.specs.Common.{IsOfGraph, Uncovered, cover_fault_of};
 
+use bench_outcomes::report_text::verdict_line;
 use bench_outcomes::{Report, Status};
 use graph_core::{MultiGraph, Reason, Verdict};
 use refusals::{CoverFault, Refusal};
-use report_text::verdict_line;
 use std::alloc::{AllocError as Memory, Global};
 
 // The fault of a graph that is not covered for this reason.

@@ -2,7 +2,7 @@
 -- loaded of the first files is what all files hold that give the first answers, and so on with the
 -- next: nothing is known of the files but what the answers say.
 use Rattle.std.proofs.Common.{◌≡◌, ℕ, ◌+◌, ◌≤◌, ◌<◌, List, [], ◌∷◌, ◌++◌, length, take, refl, ap, sym, subst, arith, length-append, Result, Ok, Err, IfErr, IsOkAnd, MatchResult}
-use Rattle.counting.proofs.Common.{take_all}
+use Rattle.move_text.proofs.from_counting.Common.{take_all}
 use Rattle.outside.specs.Common.{Answer, AnswersInTurn, NamedFile, ReadsInTurn, file_named}
 use Rattle.bench_tasks.specs.Common.{CountsAs, FailedAs, LastFailed, failures_in, failures_of, StopsAs, GathersAnswered, GaveFile, HoldGiven, LoadsAnswered, ReadsOnce, by_place, place_name, Command, file_names, Loaded, and_then, loaded, loaded_as, task_of, ReadsAs, StopsAt}
 use Rattle.bench_tasks.specs.declared.stop.Stop.{Stop}

@@ -2,7 +2,7 @@
 -- `command_of` for each row of the table of words.
 -- Stated by: bench_tasks, bench_top, front_top, theorems. Used by: bench_outcomes.
 use Rattle.std.specs.Prelude.{List, [], ◌∷◌, ℕ, ◌&&◌, nat_le, if◌then◌else◌, codes, Option, Some, None, option_map, bytes_eq}
-use Rattle.line_text.specs.Common.{is_number, value_of}
+use Rattle.graph_core.specs.from_line_text.Common.{is_number, value_of}
 use Rattle.decomposer.specs.Common.{order_named}
 use Rattle.decomposer.specs.declared.orders.NamedOrder.{NamedOrder}
 use Rattle.bench_tasks.specs.declared.verbs.GraphVerb.{GraphVerb}

@@ -4,16 +4,16 @@
 use Rattle.std.specs.Prelude.{ℕ, List, length, nat_lt, if◌then◌else◌, Option, Some, None, Result, Ok, Err}
 use Rattle.outside.specs.Common.{NamedFile, file_named}
 pub use Rattle.outside.specs.Common.{most_bytes}
-use Rattle.line_text.specs.Common.{reading_of, kind_number}
+use Rattle.graph_core.specs.from_line_text.Common.{reading_of, kind_number}
 use Rattle.graph_core.specs.Common.{Graph, size}
-use Rattle.line_text.specs.declared.faults.FaultKind.{FaultKind}
-use Rattle.line_text.specs.declared.faults.FaultKind.TheVariants.{Limit}
+use Rattle.graph_core.specs.from_line_text.declared.faults.FaultKind.{FaultKind}
+use Rattle.graph_core.specs.from_line_text.declared.faults.FaultKind.TheVariants.{Limit}
 use Rattle.graph_text.specs.Common.{NamedGraph, either_version}
 use Rattle.graph6_text.specs.Common.{outcome_of}
-use Rattle.tree_core.specs.Common.{Shape, PlainMove}
-use Rattle.tree_text.specs.Common.{pick_format, tree_format}
+use Rattle.move_text.specs.from_tree_core.Common.{Shape, PlainMove}
+use Rattle.move_text.specs.from_tree_text.Common.{pick_format, tree_format}
 use Rattle.move_text.specs.Common.{move_format}
-use Rattle.ear_core.specs.Common.{PlainEars}
+use Rattle.ear_text.specs.from_ear_core.Common.{PlainEars}
 use Rattle.ear_text.specs.EarFormat.{ear_format}
 use Rattle.bench_tasks.specs.Commands.{Command, OnGraph, OnSimpleGraph, OnTree, OnPicks, OnEars, OnMoves, OnTrees, OnNumbers}
 use Rattle.bench_tasks.specs.Tasks.{Task}

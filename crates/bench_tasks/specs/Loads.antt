@@ -2,11 +2,11 @@
 -- Stated by: bench_tasks, bench_reports, bench_top. Used by: bench_outcomes.
 use Rattle.std.specs.Prelude.{◌≡◌, ◌≤◌, List, ℕ, Bool, Option, Some, Result, Ok, Err}
 use Rattle.outside.specs.Common.{Rose, NamedFile}
-use Rattle.line_text.specs.Common.{kind_number}
+use Rattle.graph_core.specs.from_line_text.Common.{kind_number}
 use Rattle.graph_core.specs.Common.{Graph}
 use Rattle.graph_text.specs.Common.{NamedGraph, named_graph}
-use Rattle.tree_core.specs.Common.{shape_of, moves_of, PlainMove, Shape}
-use Rattle.ear_core.specs.Common.{PlainEars, ears_of}
+use Rattle.move_text.specs.from_tree_core.Common.{shape_of, moves_of, PlainMove, Shape}
+use Rattle.ear_text.specs.from_ear_core.Common.{PlainEars, ears_of}
 use Rattle.bench_tasks.specs.Loading.{Loaded, All, Bad, on_tree, on_picks, on_ears, on_moves, on_trees}
 use Rattle.bench_tasks.specs.Reads.{FailsAs, IsReadFault}
 use Rattle.bench_tasks.specs.Tasks.{Task}

@@ -1,34 +1,34 @@
 //! The formats of the files that commands name.
 ghost use Rattle.std.specs.Prelude.{◌<◌, ◌≤◌, ◌-◌, ◌^◌, ℕ, List, length, Result, IfOk};
-ghost use Rattle.line_text.specs.Common.{reading_of, ReadsText};
+ghost use Rattle.graph_core.specs.from_line_text.Common.{reading_of, ReadsText};
 ghost use Rattle.graph_core.specs.Common.{Graph, size};
-ghost use Rattle.line_text.specs.declared.faults.FaultKind.{FaultKind};
+ghost use Rattle.graph_core.specs.from_line_text.declared.faults.FaultKind.{FaultKind};
 ghost use Rattle.graph_text.specs.Common.{NamedGraph, either_version, named_graph};
 ghost use Rattle.graph6_text.specs.Common.{outcome_of};
-ghost use Rattle.tree_core.specs.Common.{Fits, Shape, shape_of, PlainMove, moves_of};
-ghost use Rattle.tree_text.specs.Common.{pick_format, tree_format};
+ghost use Rattle.move_text.specs.from_tree_core.Common.{Fits, Shape, shape_of, PlainMove, moves_of};
+ghost use Rattle.move_text.specs.from_tree_text.Common.{pick_format, tree_format};
 ghost use Rattle.move_text.specs.Common.{most_moves, move_format};
-ghost use Rattle.ear_core.specs.Common.{FitsEars, PlainEars, ears_of};
+ghost use Rattle.ear_text.specs.from_ear_core.Common.{FitsEars, PlainEars, ears_of};
 ghost use Rattle.ear_text.specs.EarFormat.{ear_format};
 ghost use Rattle.bench_tasks.specs.Loads.{simple_graph_in};
 
 use crate::tasks::SimpleGraph;
-use ear_core::EarList;
+use ear_text::ear_core::EarList;
 use ear_text::read_ears;
+use graph_core::line_text::TextFault;
 use graph_core::{MultiGraph, Numbers};
 use graph_text::{Named, read_any};
 use graph6_text::read_graph6;
-use line_text::TextFault;
 use move_text::read_moves;
+use move_text::tree_core::{Moves, Tree};
+use move_text::tree_text::{read_picks, read_tree};
 use std::alloc::Global;
-use tree_core::{Moves, Tree};
-use tree_text::{read_picks, read_tree};
 
 /// A format of files. The ghost member `reading` says what a text stands for, or its first fault.
 pub trait FileFormat {
     ghost use Rattle.std.specs.Prelude.{List, ℕ, Result, ◌<◌, ◌-◌, ◌^◌, length, IfOk};
-    ghost use Rattle.line_text.specs.TextReads.{ReadsText};
-    ghost use Rattle.line_text.specs.declared.faults.FaultKind.{FaultKind};
+    ghost use Rattle.graph_core.specs.from_line_text.TextReads.{ReadsText};
+    ghost use Rattle.graph_core.specs.from_line_text.declared.faults.FaultKind.{FaultKind};
 
     /// What a text stands for.
     type Value: Drop;

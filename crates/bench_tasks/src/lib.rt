@@ -22,7 +22,9 @@ mod tasks;
 mod verbs;
 mod words;
 
+// Passed on to the crates above.
 pub use command::{Command, GrowNumbers};
+pub use decomposer;
 pub use files::{CommandFile, file_at};
 pub use gathering::gather;
 pub use stop::Stop;

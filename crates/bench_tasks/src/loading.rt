@@ -2,21 +2,21 @@
 //! any format, and one more each set of files that commands name.
 ghost use Rattle.std.specs.Prelude.{◌≡◌, ◌≤◌, [], ◌∷◌, IfOk, IfErr, length};
 ghost use Rattle.outside.specs.Common.{file_named};
-ghost use Rattle.tree_core.specs.Common.{Fits, shape_of, moves_of};
+ghost use Rattle.move_text.specs.from_tree_core.Common.{Fits, shape_of, moves_of};
 ghost use Rattle.move_text.specs.Common.{most_moves};
-ghost use Rattle.ear_core.specs.Common.{FitsEars, ears_of};
+ghost use Rattle.ear_text.specs.from_ear_core.Common.{FitsEars, ears_of};
 ghost use Rattle.graph_core.specs.Common.{size};
 ghost use Rattle.bench_tasks.specs.Common.{LoadsAnswered, ReadsOnce, place_name, ear_file, ears_given, file_read, move_file, moves_given, picks_given, tree_file, tree_given, trees_given, Loads, given_ears, given_moves, given_picks, given_tree, given_trees, StopsAt};
 
 use crate::formats::{EarFile, FileFormat, GraphFile, MoveFile, PickFile, TreeFile};
 use crate::stop::Stop;
 use crate::tasks::{GivenEars, GivenMoves, GivenPicks, GivenTree, GivenTrees};
-use ear_core::EarList;
+use ear_text::ear_core::EarList;
 use graph_core::MultiGraph;
-use line_text::{FaultKind, TextFault};
+use graph_core::line_text::{FaultKind, TextFault};
+use move_text::tree_core::{Moves, Tree};
 use outside::{MOST_BYTES, Shelf, ShelfFault};
 use std::alloc::Global;
-use tree_core::{Moves, Tree};
 
 // What the file of that name holds, which has this place among the named files.
 fn load<S: Shelf, F: FileFormat>(
@@ -136,7 +136,7 @@ fn load_moves_for<S: Shelf>(
 }
 
 /// What the files of a graph and of a tree for it hold.
-#[tactic(auto, using(counting::proofs::Common::err_from_is_err_and))]
+#[tactic(auto, using(graph_core::proofs::Common::err_from_is_err_and))]
 pub fn load_tree<S: Shelf>(
     alloc: Global,
     graph_file: &str,
@@ -156,7 +156,7 @@ pub fn load_tree<S: Shelf>(
 }
 
 /// What the files of a graph and of a list of picks hold.
-#[tactic(auto, using(counting::proofs::Common::err_from_is_err_and))]
+#[tactic(auto, using(graph_core::proofs::Common::err_from_is_err_and))]
 pub fn load_picks<S: Shelf>(
     alloc: Global,
     graph_file: &str,
@@ -176,7 +176,7 @@ pub fn load_picks<S: Shelf>(
 }
 
 /// What the files of a graph and of a list of ears for it hold.
-#[tactic(auto, using(counting::proofs::Common::err_from_is_err_and))]
+#[tactic(auto, using(graph_core::proofs::Common::err_from_is_err_and))]
 pub fn load_ears<S: Shelf>(
     alloc: Global,
     graph_file: &str,
@@ -196,7 +196,7 @@ pub fn load_ears<S: Shelf>(
 }
 
 /// What the files of a graph, of a tree for it and of moves hold.
-#[tactic(auto, using(counting::proofs::Common::err_from_is_err_and))]
+#[tactic(auto, using(graph_core::proofs::Common::err_from_is_err_and))]
 pub fn load_moves<S: Shelf>(
     alloc: Global,
     graph_file: &str,
@@ -222,7 +222,7 @@ pub fn load_moves<S: Shelf>(
 }
 
 /// What the files of a graph, of a tree for it and of a second tree hold.
-#[tactic(auto, using(counting::proofs::Common::err_from_is_err_and))]
+#[tactic(auto, using(graph_core::proofs::Common::err_from_is_err_and))]
 pub fn load_trees<S: Shelf>(
     alloc: Global,
     graph_file: &str,

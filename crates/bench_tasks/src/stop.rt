@@ -1,6 +1,6 @@
 //! Why loading stops.
 
-use line_text::FaultKind;
+use graph_core::line_text::FaultKind;
 
 /// Why the files of a command were not loaded.
 #[derive(Clone, Copy, Debug, PartialEq, Eq)]

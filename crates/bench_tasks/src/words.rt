@@ -8,8 +8,8 @@ use crate::verbs::{
     EarsVerb, GraphVerb, MovesVerb, NumbersVerb, PicksVerb, SimpleGraphVerb, TreeVerb, TreesVerb,
 };
 use decomposer::NamedOrder;
+use graph_core::line_text::number;
 use grow_gen::MOST_PIECES;
-use line_text::number;
 
 // The command to grow a graph from the numbers that the two words write, if they write such
 // numbers.

@@ -2,14 +2,14 @@
 -- the verdict gives a value that the graph determines. A rising list is determined by its
 -- members, the number of edges of a maximum matching by there being none with more, and the kind
 -- by the sides and the first candidate.
-use Rattle.counting.proofs.Common.{◌≡◌, ◌∙◌, ◌↔◌, ℕ, List, ◌++◌, Bool, Option, Some, None, refl, sym, ap, arith, codes, IsTrue, same_tests, same_rising_list, Lists}
+use Rattle.move_text.proofs.from_counting.Common.{◌≡◌, ◌∙◌, ◌↔◌, ℕ, List, ◌++◌, Bool, Option, Some, None, refl, sym, ap, arith, codes, IsTrue, same_tests, same_rising_list, Lists}
 use Rattle.graph_core.proofs.Common.{Graph, IsBipartite, IsMultigraph, size, InA, InC, InD, Allowed, IsVerdict, reason_of, reason-uncovered, missed_edges}
 use Rattle.graph_core.specs.declared.verdict.Verdict.{Verdict}
 use Rattle.graph_core.specs.declared.verdict.Verdict.TheVariants.{Covered, NotCovered}
-use Rattle.report_text.specs.Common.{analysis_text, graph_lines, verdict_lines, with_structure, with_three_sets, deficiency_line, list_line, matching_line, verdict_text}
-use Rattle.report_text.specs.declared.analyses.AnalysisLines.{AnalysisLines}
-use Rattle.report_text.specs.declared.structures.Structure.{Structure}
-use Rattle.bench_outcomes.specs.Common.{HasMaximum, IsAnalysis, TellsStructure, MayBeBerge}
+use Rattle.mcg6_lines.specs.from_report_text.Common.{analysis_text, graph_lines, verdict_lines, with_structure, with_three_sets, deficiency_line, list_line, matching_line, verdict_text}
+use Rattle.mcg6_lines.specs.from_report_text.declared.analyses.AnalysisLines.{AnalysisLines}
+use Rattle.mcg6_lines.specs.from_report_text.declared.structures.Structure.{Structure}
+use Rattle.bench_reports.specs.from_bench_outcomes.Common.{HasMaximum, IsAnalysis, TellsStructure, MayBeBerge}
 use Rattle.bench_top.specs.Fixed.{DifferAtMostIn}
 use Rattle.bench_top.proofs.AlikeReasons.{reason-alike}
 use Rattle.bench_top.proofs.AlikeTexts.{alike-along, alike-behind}

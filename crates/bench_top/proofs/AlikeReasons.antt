@@ -5,12 +5,12 @@ use Rattle.graph_core.proofs.Common.{IsReason, Graph, reason_of}
 use Rattle.graph_core.specs.declared.verdict.Reason.{Reason}
 use Rattle.graph_core.specs.declared.verdict.Reason.TheVariants.{Small, Parted, Unmatched, Unallowed}
 use Rattle.graph_core.specs.declared.verdict.Verdict.TheVariants.{NotCovered}
-use Rattle.definition_laws.proofs.Reasons.{reason-one}
-use Rattle.definition_laws.specs.Words.{without_berge}
-use Rattle.report_text.specs.Common.{numbers_text, verdict_text}
+use Rattle.mcg6_lines.proofs.from_definition_laws.Reasons.{reason-one}
+use Rattle.mcg6_lines.specs.from_definition_laws.Words.{without_berge}
+use Rattle.mcg6_lines.specs.from_report_text.Common.{numbers_text, verdict_text}
 use Rattle.bench_top.specs.Fixed.{DifferAtMostIn}
-use Rattle.bench_outcomes.specs.Common.{MayBeBerge, Uncovered}
-use Rattle.bench_outcomes.specs.declared.status.Status.{Status}
+use Rattle.bench_reports.specs.from_bench_outcomes.Common.{MayBeBerge, Uncovered}
+use Rattle.bench_reports.specs.from_bench_outcomes.declared.status.Status.{Status}
 use Rattle.bench_top.proofs.AlikeTexts.{alike-along, alike-before, alike-behind, alike-lists}
 
 -- for reasons that are one but for the Berge set

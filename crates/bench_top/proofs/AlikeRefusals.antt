@@ -1,25 +1,25 @@
 -- Two refusals of one thing have one text, but for the list of numbers that they show: the first
 -- node that breaks a rule is one, and so is the rule, and the first step or move that fails.
-use Rattle.counting.proofs.Common.{◌≡◌, ◌∙◌, ℕ, List, ◌++◌, inl, inr, refl, sym, ap₂, subst, arith, codes, singleton}
+use Rattle.move_text.proofs.from_counting.Common.{◌≡◌, ◌∙◌, ℕ, List, ◌++◌, inl, inr, refl, sym, ap₂, subst, arith, codes, singleton}
 use Rattle.graph_core.proofs.Common.{Graph, IsGraph}
-use Rattle.tree_core.proofs.Common.{IsDerivation, PlainMove, Shape}
-use Rattle.tree_check.proofs.FirstRefusals.{refused-not_derived, refused-once}
-use Rattle.tree_check.proofs.ReplayAnswers.{refused-exactly, refused_move-once, stuck-exactly}
-use Rattle.tree_check.specs.Common.{Why, even, not_blocks, not_leaf, not_tight, trivial, why_number, without_matching, IsRefusedMoveAt}
-use Rattle.tree_check.specs.declared.replaying.Replayed.TheVariants.{Stuck}
-use Rattle.ear_core.specs.Common.{PlainEars}
-use Rattle.ear_core.proofs.Refusing.{refusal-one}
-use Rattle.report_text.specs.Common.{judgement_text, numbered, refused_line, numbers_text, refused_move_text}
-use Rattle.report_text.specs.declared.ear_judgements.EarLine.TheVariants as ear_line
-use Rattle.bench_outcomes.specs.Common.{CheckGives, RefusedTree, RefusesTree, shown_of, CompareGives, RefusesPair, ScriptGives, EarCheckGives, EarsGives, RefusedEars, MayBeBerge, MayCross, MayCrossBehind, MayShowOfMoves, MayShowOfTree, MayShowOfTwo, DecomposeGives, MovesGive, RefusedMove, ReplayGives, StuckMove}
-use Rattle.bench_outcomes.specs.EarChecks as ears
+use Rattle.move_text.proofs.from_tree_core.Common.{IsDerivation, PlainMove, Shape}
+use Rattle.bench_reports.proofs.from_tree_check.FirstRefusals.{refused-not_derived, refused-once}
+use Rattle.bench_reports.proofs.from_tree_check.ReplayAnswers.{refused-exactly, refused_move-once, stuck-exactly}
+use Rattle.bench_reports.specs.from_tree_check.Common.{Why, even, not_blocks, not_leaf, not_tight, trivial, why_number, without_matching, IsRefusedMoveAt}
+use Rattle.bench_reports.specs.from_tree_check.declared.replaying.Replayed.TheVariants.{Stuck}
+use Rattle.ear_text.specs.from_ear_core.Common.{PlainEars}
+use Rattle.ear_text.proofs.from_ear_core.Refusing.{refusal-one}
+use Rattle.mcg6_lines.specs.from_report_text.Common.{judgement_text, numbered, refused_line, numbers_text, refused_move_text}
+use Rattle.mcg6_lines.specs.from_report_text.declared.ear_judgements.EarLine.TheVariants as ear_line
+use Rattle.bench_reports.specs.from_bench_outcomes.Common.{CheckGives, RefusedTree, RefusesTree, shown_of, CompareGives, RefusesPair, ScriptGives, EarCheckGives, EarsGives, RefusedEars, MayBeBerge, MayCross, MayCrossBehind, MayShowOfMoves, MayShowOfTree, MayShowOfTwo, DecomposeGives, MovesGive, RefusedMove, ReplayGives, StuckMove}
+use Rattle.bench_reports.specs.from_bench_outcomes.EarChecks as ears
 use Rattle.bench_top.specs.Fixed.{DifferAtMostIn}
-use Rattle.bench_outcomes.specs.declared.status.Status.TheVariants.{Negative}
+use Rattle.bench_reports.specs.from_bench_outcomes.declared.status.Status.TheVariants.{Negative}
 use Rattle.graph_text.specs.Common.{NamedGraph}
-use Rattle.tight_cuts.specs.Common.{Candidate}
+use Rattle.bench_reports.specs.from_tight_cuts.Common.{Candidate}
 use Rattle.bench_top.proofs.AlikeReasons.{uncovered-alike}
 use Rattle.bench_top.proofs.AlikeTexts.{alike-along, alike-before, alike-behind, alike-lists, alike-wider}
-use Rattle.bench_outcomes.proofs.Settled.{refused-tree}
+use Rattle.bench_reports.proofs.from_bench_outcomes.Settled.{refused-tree}
 
 -- the line of a refusal, for reasons that are one but for the matching
 line-alike : (fact : List ℕ → Type 0) (words : List ℕ) (number node : ℕ) (a b : Why) → without_matching a ≡ without_matching b →

@@ -4,19 +4,19 @@
 use Rattle.std.proofs.Common.{◌≡◌, ℕ, List, inl, inr, subst, arith}
 use Rattle.graph_core.proofs.Common.{Graph, IsMultigraph, singles}
 use Rattle.graph_text.specs.Common.{NamedGraph}
-use Rattle.tight_cuts.specs.Common.{Candidate}
-use Rattle.ear_core.specs.Common.{PlainEars}
-use Rattle.tree_core.proofs.Common.{leaves, PlainMove, Shape, IsTally}
-use Rattle.tree_check.proofs.ReplayAnswers.{last-once}
-use Rattle.report_text.specs.declared.judgements.TreeLine.TheVariants as line
-use Rattle.tree_core.specs.declared.tallies.Tally.{Tally}
-use Rattle.grow_gen.specs.Common.{grown}
-use Rattle.bench_outcomes.specs.Common.{CheckGives, RefusesTree, EarCheckGives, MayBeBerge, Grown, IsCountedTree, Analysed, Analysed6, DecomposeGives, TellsDerivation, ReplayGives, ReplayedTree}
+use Rattle.bench_reports.specs.from_tight_cuts.Common.{Candidate}
+use Rattle.ear_text.specs.from_ear_core.Common.{PlainEars}
+use Rattle.move_text.proofs.from_tree_core.Common.{leaves, PlainMove, Shape, IsTally}
+use Rattle.bench_reports.proofs.from_tree_check.ReplayAnswers.{last-once}
+use Rattle.mcg6_lines.specs.from_report_text.declared.judgements.TreeLine.TheVariants as line
+use Rattle.move_text.specs.from_tree_core.declared.tallies.Tally.{Tally}
+use Rattle.bench_reports.specs.from_grow_gen.Common.{grown}
+use Rattle.bench_reports.specs.from_bench_outcomes.Common.{CheckGives, RefusesTree, EarCheckGives, MayBeBerge, Grown, IsCountedTree, Analysed, Analysed6, DecomposeGives, TellsDerivation, ReplayGives, ReplayedTree}
 use Rattle.bench_top.specs.Fixed.{DifferAtMostIn}
-use Rattle.decomposer.specs.Common.{NamedPicks}
-use Rattle.decomposer.specs.declared.orders.NamedOrder.{NamedOrder}
-use Rattle.decomposer.specs.declared.orders.NamedOrder.TheVariants.{First, Last}
-use Rattle.bench_outcomes.specs.declared.status.Status.TheVariants.{Done}
+use Rattle.mcg6_lines.specs.from_decomposer.Common.{NamedPicks}
+use Rattle.mcg6_lines.specs.from_decomposer.declared.orders.NamedOrder.{NamedOrder}
+use Rattle.mcg6_lines.specs.from_decomposer.declared.orders.NamedOrder.TheVariants.{First, Last}
+use Rattle.bench_reports.specs.from_bench_outcomes.declared.status.Status.TheVariants.{Done}
 use Rattle.bench_top.proofs.AlikeAnalyses.{analyses-alike}
 use Rattle.bench_top.proofs.AlikeTexts.{alike-along, graph6-alike, named-alike}
 use Rattle.mcg6_lines.proofs.OneTree.{PicksOnce, named-once, picked-once, kinds-once, tally-once}

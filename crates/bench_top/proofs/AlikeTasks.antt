@@ -1,21 +1,21 @@
 -- How alike are two reports of one task? One line for each task says it of a done one and of a
 -- refused one, as far as its conduct promises; the rest goes by the conduct alone.
 use Rattle.std.proofs.Common.{◌≡◌, ◌∙◌, ℕ, List, inl, inr, sym, subst, arith}
-use Rattle.decomposer.specs.Common.{NamedPicks, ScriptPicks}
-use Rattle.bench_tasks.specs.Common.{Task}
-use Rattle.bench_tasks.specs.Tasks as task
-use Rattle.bench_tasks.specs.declared.verbs.GraphVerb.TheVariants.{Analyse, Convert, Decompose, Ears}
-use Rattle.bench_tasks.specs.declared.verbs.SimpleGraphVerb.TheVariants.{Analyse6}
-use Rattle.bench_tasks.specs.declared.verbs.TreeVerb.TheVariants.{Check}
-use Rattle.bench_tasks.specs.declared.verbs.PicksVerb.TheVariants.{DecomposeBy}
-use Rattle.bench_tasks.specs.declared.verbs.EarsVerb.TheVariants.{CheckEars}
-use Rattle.bench_tasks.specs.declared.verbs.MovesVerb.TheVariants.{Replay}
-use Rattle.bench_tasks.specs.declared.verbs.TreesVerb.TheVariants.{Compare, Script}
-use Rattle.bench_tasks.specs.declared.verbs.NumbersVerb.TheVariants.{Grow}
-use Rattle.bench_outcomes.specs.Common.{Conduct, Writes, Tells, Needs, Chooses, conduct_of, ResultOf, RefusesBy, TaskMayRefuse}
-use Rattle.bench_outcomes.specs.declared.status.Status.{Status}
-use Rattle.bench_outcomes.specs.declared.status.Status.TheVariants.{Done, Negative}
-use Rattle.bench_outcomes.proofs.Settled.{IsSettledTask, KeepsGraph, settled, task-settled}
+use Rattle.mcg6_lines.specs.from_decomposer.Common.{NamedPicks, ScriptPicks}
+use Rattle.bench_reports.specs.from_bench_tasks.Common.{Task}
+use Rattle.bench_reports.specs.from_bench_tasks.Tasks as task
+use Rattle.bench_reports.specs.from_bench_tasks.declared.verbs.GraphVerb.TheVariants.{Analyse, Convert, Decompose, Ears}
+use Rattle.bench_reports.specs.from_bench_tasks.declared.verbs.SimpleGraphVerb.TheVariants.{Analyse6}
+use Rattle.bench_reports.specs.from_bench_tasks.declared.verbs.TreeVerb.TheVariants.{Check}
+use Rattle.bench_reports.specs.from_bench_tasks.declared.verbs.PicksVerb.TheVariants.{DecomposeBy}
+use Rattle.bench_reports.specs.from_bench_tasks.declared.verbs.EarsVerb.TheVariants.{CheckEars}
+use Rattle.bench_reports.specs.from_bench_tasks.declared.verbs.MovesVerb.TheVariants.{Replay}
+use Rattle.bench_reports.specs.from_bench_tasks.declared.verbs.TreesVerb.TheVariants.{Compare, Script}
+use Rattle.bench_reports.specs.from_bench_tasks.declared.verbs.NumbersVerb.TheVariants.{Grow}
+use Rattle.bench_reports.specs.from_bench_outcomes.Common.{Conduct, Writes, Tells, Needs, Chooses, conduct_of, ResultOf, RefusesBy, TaskMayRefuse}
+use Rattle.bench_reports.specs.from_bench_outcomes.declared.status.Status.{Status}
+use Rattle.bench_reports.specs.from_bench_outcomes.declared.status.Status.TheVariants.{Done, Negative}
+use Rattle.bench_reports.proofs.from_bench_outcomes.Settled.{IsSettledTask, KeepsGraph, settled, task-settled}
 use Rattle.bench_top.specs.Fixed.{ChosenBy, DifferAtMostIn, HasChosenText, HasOneOutput, MayShow, OneBy, ShownBy}
 use Rattle.bench_top.proofs.AlikeRefusals.{check-alike, compare-alike, decompose-alike, ears-alike, list-alike, replay-alike, script-alike}
 use Rattle.bench_top.proofs.AlikeReports.{analysed-alike, analysed6-alike, check-once, decompose-once, ears-once, grow-once, replay-once}

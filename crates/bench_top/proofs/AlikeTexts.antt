@@ -1,8 +1,8 @@
 -- Two texts that differ at most in one list of numbers, between texts that are the same.
 -- Idea: what is put in front of both, or after both, goes to the text before the two lists, or
 -- after them.
-use Rattle.counting.proofs.Common.{◌≡◌, ℕ, List, [], ◌++◌, length, false, inr, sym, append_assoc, arith, append-nil}
-use Rattle.report_text.specs.Common.{graph6_line, name_lines, numbers_text, with_names_text}
+use Rattle.move_text.proofs.from_counting.Common.{◌≡◌, ℕ, List, [], ◌++◌, length, false, inr, sym, append_assoc, arith, append-nil}
+use Rattle.mcg6_lines.specs.from_report_text.Common.{graph6_line, name_lines, numbers_text, with_names_text}
 use Rattle.bench_top.specs.Fixed.{DifferAtMostIn}
 
 -- with no right list the texts are one

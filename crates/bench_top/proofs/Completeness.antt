@@ -2,12 +2,12 @@
 -- it is BadInput.
 use Rattle.std.proofs.Common.{◌≡◌, ◌↔◌, ℕ, List, Option, Some, ◌⊎◌, inl, inr, refl, arith}
 use Rattle.outside.specs.Common.{NamedFile}
-use Rattle.bench_tasks.specs.Common.{Command, command_of, Loaded, All, loaded, Task}
-use Rattle.bench_outcomes.specs.Common.{CommandGives, IsReported, LoadedGives, Outcome, Succeeds}
-use Rattle.bench_outcomes.specs.declared.status.Status.{Status}
-use Rattle.bench_outcomes.specs.declared.status.Status.TheVariants.{Done, Negative, Usage, ReadFault, BadInput, WriteFault, Memory}
+use Rattle.bench_reports.specs.from_bench_tasks.Common.{Command, command_of, Loaded, All, loaded, Task}
+use Rattle.bench_reports.specs.from_bench_outcomes.Common.{CommandGives, IsReported, LoadedGives, Outcome, Succeeds}
+use Rattle.bench_reports.specs.from_bench_outcomes.declared.status.Status.{Status}
+use Rattle.bench_reports.specs.from_bench_outcomes.declared.status.Status.TheVariants.{Done, Negative, Usage, ReadFault, BadInput, WriteFault, Memory}
 use Rattle.bench_top.proofs.LoadedGraphs.{Holds, loaded-graph}
-use Rattle.bench_outcomes.proofs.Settled.{KeepsGraph, Settles, settled}
+use Rattle.bench_reports.proofs.from_bench_outcomes.Settled.{KeepsGraph, Settles, settled}
 
 settles-done : (fact : Type 0) (status : Status) → Settles fact status → (status ≡ Done) ↔ fact
 settles-done fact status h = grind arith

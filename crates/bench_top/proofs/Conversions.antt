@@ -3,15 +3,15 @@
 -- same text.
 use Rattle.std.proofs.Common.{◌≡◌, ℕ, ◌≤◌, List, [], ◌∷◌, length, Some, refl, subst, codes, arith}
 use Rattle.outside.specs.Common.{NamedFile, file_named, most_bytes}
-use Rattle.line_text.specs.Common.{reading_of}
-use Rattle.line_text.proofs.ExactlyOne.{Stands-reading_of}
+use Rattle.graph_core.specs.from_line_text.Common.{reading_of}
+use Rattle.graph_core.proofs.from_line_text.ExactlyOne.{Stands-reading_of}
 use Rattle.graph_text.specs.Common.{NamedGraph, either_version}
-use Rattle.bench_tasks.specs.Common.{Loaded, All, loaded_as, graph_file}
-use Rattle.bench_outcomes.specs.Common.{LoadedGives, Outcome, Converted, given_or_plain}
-use Rattle.bench_tasks.specs.Tasks as task
-use Rattle.bench_tasks.specs.declared.verbs.GraphVerb.TheVariants.{Convert}
-use Rattle.bench_outcomes.specs.declared.status.Status.{Status}
-use Rattle.bench_outcomes.specs.declared.status.Status.TheVariants.{Done}
+use Rattle.bench_reports.specs.from_bench_tasks.Common.{Loaded, All, loaded_as, graph_file}
+use Rattle.bench_reports.specs.from_bench_outcomes.Common.{LoadedGives, Outcome, Converted, given_or_plain}
+use Rattle.bench_reports.specs.from_bench_tasks.Tasks as task
+use Rattle.bench_reports.specs.from_bench_tasks.declared.verbs.GraphVerb.TheVariants.{Convert}
+use Rattle.bench_reports.specs.from_bench_outcomes.declared.status.Status.{Status}
+use Rattle.bench_reports.specs.from_bench_outcomes.declared.status.Status.TheVariants.{Done}
 use Rattle.bench_top.proofs.Completeness.{status-once}
 use Rattle.bench_top.proofs.FileReads.{file_read-value}
 

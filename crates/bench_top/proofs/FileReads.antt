@@ -1,11 +1,11 @@
 -- What is read of a file that is held and within the limit of bytes is what its text is read as.
 -- Each lemma looks the file up, leaves the test of its length after, and computes.
-use Rattle.counting.proofs.Common.{◌≡◌, ℕ, ◌≤◌, List, length, Ok, Result, false, ap, ◌∙◌, arith, Some, Option, Bool, cond, nat_lt, nat_tests}
-use Rattle.line_text.specs.Common.{kind_number}
-use Rattle.line_text.specs.declared.faults.FaultKind.{FaultKind}
-use Rattle.line_text.specs.declared.faults.FaultKind.TheVariants.{Limit}
+use Rattle.move_text.proofs.from_counting.Common.{◌≡◌, ℕ, ◌≤◌, List, length, Ok, Result, false, ap, ◌∙◌, arith, Some, Option, Bool, cond, nat_lt, nat_tests}
+use Rattle.graph_core.specs.from_line_text.Common.{kind_number}
+use Rattle.graph_core.specs.from_line_text.declared.faults.FaultKind.{FaultKind}
+use Rattle.graph_core.specs.from_line_text.declared.faults.FaultKind.TheVariants.{Limit}
 use Rattle.outside.specs.Common.{most_bytes}
-use Rattle.bench_tasks.specs.Common.{Loaded, All, Bad, file_read, from_reading}
+use Rattle.bench_reports.specs.from_bench_tasks.Common.{Loaded, All, Bad, file_read, from_reading}
 
 -- within the limit of bytes the text is read
 file_read-within : {A : Type 0} (place : ℕ) (reading : List ℕ → Result A (ℕ × FaultKind)) (file : Option (List ℕ)) (bytes : List ℕ) → file ≡ Some bytes → length bytes ≤ most_bytes → file_read place reading file ≡ from_reading place (reading bytes)

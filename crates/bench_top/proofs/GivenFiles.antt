@@ -1,15 +1,15 @@
 -- There are files that reads gave, whatever they answered: one for each answer that gave one, named
 -- by its place. They hold what was answered at each place, since places differ.
-use Rattle.counting.proofs.Common.{◌≡◌, ◌<◌, ℕ, ◌+◌, List, [], ◌∷◌, length, refl, subst, sym, arith, Result, Ok, Err, replicate, false, Option, Some, bytes_eq, length-replicate, nat_tests}
+use Rattle.move_text.proofs.from_counting.Common.{◌≡◌, ◌<◌, ℕ, ◌+◌, List, [], ◌∷◌, length, refl, subst, sym, arith, Result, Ok, Err, replicate, false, Option, Some, bytes_eq, length-replicate, nat_tests}
 use Rattle.outside.specs.Common.{Answer, NamedFile, file_named, most_bytes}
 use Rattle.outside.specs.declared.shelf.ShelfFault.TheVariants.{Failed, TooLong, Memory}
-use Rattle.bench_tasks.specs.Common.{FailedAs, GathersAnswered, HoldGiven, IsReadFault, failures_of, by_place, place_name, Command, loaded, Held, LoadsAs, task_of}
-use Rattle.bench_tasks.specs.declared.stop.Stop.{Stop}
-use Rattle.bench_tasks.specs.declared.stop.Stop.TheVariants as stop
-use Rattle.bench_tasks.specs.declared.tasks.Task.TheVariants as code
-use Rattle.bench_outcomes.specs.Common.{LoadedGives}
-use Rattle.bench_outcomes.specs.declared.status.Status.{Status}
-use Rattle.bench_outcomes.specs.declared.status.Status.TheVariants as ended
+use Rattle.bench_reports.specs.from_bench_tasks.Common.{FailedAs, GathersAnswered, HoldGiven, IsReadFault, failures_of, by_place, place_name, Command, loaded, Held, LoadsAs, task_of}
+use Rattle.bench_reports.specs.from_bench_tasks.declared.stop.Stop.{Stop}
+use Rattle.bench_reports.specs.from_bench_tasks.declared.stop.Stop.TheVariants as stop
+use Rattle.bench_reports.specs.from_bench_tasks.declared.tasks.Task.TheVariants as code
+use Rattle.bench_reports.specs.from_bench_outcomes.Common.{LoadedGives}
+use Rattle.bench_reports.specs.from_bench_outcomes.declared.status.Status.{Status}
+use Rattle.bench_reports.specs.from_bench_outcomes.declared.status.Status.TheVariants as ended
 use Rattle.bench_top.specs.Given.{AreGiven, BeginsWith, FailedWith, GivenOutcome}
 use Rattle.bench_top.specs.Writes.{WritesAs}
 

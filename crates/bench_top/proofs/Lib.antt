@@ -24,3 +24,7 @@ pub mod RefusalsReported
 pub mod Performed
 pub mod PlacedFiles
 pub mod Reported
+-- Passed on to the crates above: from_NAME is all that the crate NAME has in its folder of this name.
+pub use Rattle.mcg6_lines.proofs as from_mcg6_lines
+pub use Rattle.bench_reports.proofs.from_bench_outcomes as from_bench_outcomes
+pub use Rattle.bench_reports.proofs as from_bench_reports

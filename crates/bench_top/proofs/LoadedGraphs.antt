@@ -2,18 +2,18 @@
 -- case of loading passes this on.
 use Rattle.std.proofs.Common.{ℕ, List, Option, Some, None, Result, arith}
 use Rattle.outside.specs.Common.{NamedFile, file_named}
-use Rattle.line_text.specs.Common.{reading_of}
+use Rattle.graph_core.specs.from_line_text.Common.{reading_of}
 use Rattle.graph6_text.specs.Common.{outcome_of}
-use Rattle.ear_core.specs.Common.{PlainEars}
+use Rattle.ear_text.specs.from_ear_core.Common.{PlainEars}
 use Rattle.graph_core.proofs.Common.{Graph, IsMultigraph}
-use Rattle.line_text.specs.declared.faults.FaultKind.{FaultKind}
+use Rattle.graph_core.specs.from_line_text.declared.faults.FaultKind.{FaultKind}
 use Rattle.graph_text.specs.Common.{NamedGraph, either_version}
-use Rattle.tree_core.proofs.Common.{PlainMove, Shape}
-use Rattle.bench_tasks.specs.Common.{Command, OnGraph, OnSimpleGraph, OnTree, OnPicks, OnEars, OnMoves, OnTrees, OnNumbers, Loaded, All, Bad, Absent, and_then, ear_file, ears_given, file_read, graph6_file, graph_file, loaded, loaded_as, move_file, moves_given, on_ears, on_moves, on_picks, on_tree, on_trees, pick_file, picks_given, tree_file, tree_given, trees_given}
-use Rattle.bench_tasks.specs.Tasks as task
+use Rattle.move_text.proofs.from_tree_core.Common.{PlainMove, Shape}
+use Rattle.bench_reports.specs.from_bench_tasks.Common.{Command, OnGraph, OnSimpleGraph, OnTree, OnPicks, OnEars, OnMoves, OnTrees, OnNumbers, Loaded, All, Bad, Absent, and_then, ear_file, ears_given, file_read, graph6_file, graph_file, loaded, loaded_as, move_file, moves_given, on_ears, on_moves, on_picks, on_tree, on_trees, pick_file, picks_given, tree_file, tree_given, trees_given}
+use Rattle.bench_reports.specs.from_bench_tasks.Tasks as task
 use Rattle.bench_top.proofs.ReadGraphs.{GoesOn, HasGraph, IsRead, read-graph}
 use Rattle.bench_top.proofs.ReadSimpleGraphs.{read-simple_graph}
-use Rattle.bench_outcomes.proofs.Settled.{KeepsGraph}
+use Rattle.bench_reports.proofs.from_bench_outcomes.Settled.{KeepsGraph}
 
 -- the fact holds of what is held, if all is held and good
 abbrev pub Holds : {A : Type 0} → (A → Type 0) → Loaded A → Type 0

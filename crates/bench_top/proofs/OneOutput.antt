@@ -2,11 +2,11 @@
 -- refusal leaves free is one list of numbers.
 use Rattle.std.proofs.Common.{◌≡◌, ℕ, List, Option, Some, subst, arith}
 use Rattle.outside.specs.Common.{NamedFile}
-use Rattle.bench_tasks.specs.Common.{Command, command_of, All, loaded, Task}
-use Rattle.bench_outcomes.specs.Common.{CommandGives, Outcome, ResultOf}
-use Rattle.bench_outcomes.specs.declared.status.Status.{Status}
-use Rattle.bench_outcomes.specs.declared.status.Status.TheVariants.{Done, Negative, BadInput}
-use Rattle.bench_outcomes.proofs.Settled.{KeepsGraph}
+use Rattle.bench_reports.specs.from_bench_tasks.Common.{Command, command_of, All, loaded, Task}
+use Rattle.bench_reports.specs.from_bench_outcomes.Common.{CommandGives, Outcome, ResultOf}
+use Rattle.bench_reports.specs.from_bench_outcomes.declared.status.Status.{Status}
+use Rattle.bench_reports.specs.from_bench_outcomes.declared.status.Status.TheVariants.{Done, Negative, BadInput}
+use Rattle.bench_reports.proofs.from_bench_outcomes.Settled.{KeepsGraph}
 use Rattle.bench_top.specs.Fixed.{DifferAtMostIn, HasChosenText, HasOneOutput, MayShow, ShowsNothingFree}
 use Rattle.bench_top.proofs.AlikeTasks.{refused-alike, task-alike, task-once}
 use Rattle.bench_top.proofs.AlikeTexts.{alike-none}

@@ -4,12 +4,12 @@ use Rattle.std.proofs.Common.{◌≡◌, ◌∙◌, ◌⊎◌, ◌↔◌, ℕ, L
 use Rattle.std.proofs.lemmas.Option.{none-some, same_Some}
 use Rattle.outside.specs.Common.{Answer, NamedFile, ReadsInTurn, Rose}
 use Rattle.refusals.specs.declared.refusal.Refusal.{Refusal}
-use Rattle.bench_tasks.specs.Common.{Absent, All, Bad, Command, FailsAs, GathersAnswered, Held, HasNoMissing, IsReadFault, IsTaskOf, Loaded, Loads, LoadsAs, ReadsAs, Task, file_names, loaded, names_until, task_of}
-use Rattle.bench_tasks.specs.declared.stop.Stop.{Stop}
-use Rattle.bench_tasks.specs.declared.tasks.Task.TheVariants as code
-use Rattle.bench_outcomes.specs.Common.{Appended, CutShort, GatheredMayRefuse, IsPlaced, IsReported, IsSettled, LoadedGives, is_negative}
-use Rattle.bench_outcomes.specs.declared.status.Status.{Status}
-use Rattle.bench_outcomes.specs.declared.status.Status.TheVariants.{Negative, Usage, ReadFault, BadInput, WriteFault}
+use Rattle.bench_reports.specs.from_bench_tasks.Common.{Absent, All, Bad, Command, FailsAs, GathersAnswered, Held, HasNoMissing, IsReadFault, IsTaskOf, Loaded, Loads, LoadsAs, ReadsAs, Task, file_names, loaded, names_until, task_of}
+use Rattle.bench_reports.specs.from_bench_tasks.declared.stop.Stop.{Stop}
+use Rattle.bench_reports.specs.from_bench_tasks.declared.tasks.Task.TheVariants as code
+use Rattle.bench_reports.specs.from_bench_outcomes.Common.{Appended, CutShort, GatheredMayRefuse, IsPlaced, IsReported, IsSettled, LoadedGives, is_negative}
+use Rattle.bench_reports.specs.from_bench_outcomes.declared.status.Status.{Status}
+use Rattle.bench_reports.specs.from_bench_outcomes.declared.status.Status.TheVariants.{Negative, Usage, ReadFault, BadInput, WriteFault}
 use Rattle.bench_top.specs.Calm.{HasRead}
 use Rattle.bench_top.specs.Endings.{IsStopOf, ReportedBad, ReportedRefusal, stop_in}
 use Rattle.bench_top.specs.Runs.{RunsTo}

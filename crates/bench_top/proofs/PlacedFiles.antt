@@ -1,21 +1,21 @@
 -- Where each file of a command is held, by its place, and none is too long, each read returned its
 -- file: so the files are the texts that the reads returned, named by their places.
-use Rattle.counting.proofs.Common.{lt-ltb}
+use Rattle.move_text.proofs.from_counting.Common.{lt-ltb}
 use Rattle.std.proofs.Common.{◌≡◌, ◌∙◌, ◌<◌, ℕ, ◌+◌, false, cond, List, [], ◌∷◌, map, length, Option, Some, None, Result, Ok, Err, refl, sym, ap, arith, bytes_eq}
 use Rattle.std.proofs.lemmas.Bool.Decides.{nat_tests}
 use Rattle.outside.specs.Common.{Answer, AnswersInTurn, NamedFile, file_named, most_bytes}
 use Rattle.outside.specs.declared.shelf.ShelfFault.TheVariants.{Failed, TooLong, Memory}
-use Rattle.line_text.specs.declared.faults.FaultKind.{FaultKind}
-use Rattle.line_text.specs.Common.{reading_of}
+use Rattle.graph_core.specs.from_line_text.declared.faults.FaultKind.{FaultKind}
+use Rattle.graph_core.specs.from_line_text.Common.{reading_of}
 use Rattle.graph_core.specs.Common.{size}
 use Rattle.graph_text.specs.Common.{NamedGraph, either_version}
 use Rattle.graph6_text.specs.Common.{outcome_of}
-use Rattle.tree_core.specs.Common.{Shape}
-use Rattle.tree_text.specs.Common.{pick_format, tree_format}
+use Rattle.move_text.specs.from_tree_core.Common.{Shape}
+use Rattle.move_text.specs.from_tree_text.Common.{pick_format, tree_format}
 use Rattle.move_text.specs.Common.{move_format}
 use Rattle.ear_text.specs.EarFormat.{ear_format}
-use Rattle.bench_tasks.specs.Common.{Command, OnGraph, OnSimpleGraph, OnTree, OnPicks, OnEars, OnMoves, OnTrees, OnNumbers, All, Bad, Absent, Loaded, Task, and_then, by_place, ear_file, ears_given, file_names, file_read, graph6_file, graph_file, loaded, loaded_as, move_file, moves_given, on_ears, on_moves, on_picks, on_tree, on_trees, pick_file, picks_given, place_name, tree_file, tree_given, trees_given}
-use Rattle.bench_tasks.specs.Tasks as task
+use Rattle.bench_reports.specs.from_bench_tasks.Common.{Command, OnGraph, OnSimpleGraph, OnTree, OnPicks, OnEars, OnMoves, OnTrees, OnNumbers, All, Bad, Absent, Loaded, Task, and_then, by_place, ear_file, ears_given, file_names, file_read, graph6_file, graph_file, loaded, loaded_as, move_file, moves_given, on_ears, on_moves, on_picks, on_tree, on_trees, pick_file, picks_given, place_name, tree_file, tree_given, trees_given}
+use Rattle.bench_reports.specs.from_bench_tasks.Tasks as task
 use Rattle.bench_top.specs.Given.{AreGiven}
 use Rattle.bench_top.specs.Installed.{placed}
 

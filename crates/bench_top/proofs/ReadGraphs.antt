@@ -2,11 +2,11 @@
 -- vertices, and differ. What has been read so far keeps this from line to line, and has no more
 -- names than vertices, so that the vertex of a name is one of the graph.
 use Rattle.std.proofs.Common.{◌≡◌, ◌≢◌, ℕ, zero, suc, ◌+◌, ◌<◌, ◌≤◌, ◌==◌, ◌||◌, not, nat_lt, Bool, true, false, cond, List, [], ◌∷◌, ◌++◌, length, Option, Some, None, Result, Ok, Err, refl, sym, arith, length-append, slice_index_or, ltb-true, bytes_eq}
-use Rattle.counting.proofs.Common.{position_or_len, result_map_both, eqb-false, AllByRecursion, list_any, and_parts, both_ways, or_parts, true≢false, not-false, nat_tests, bytes_eq-Decides, Within}
+use Rattle.move_text.proofs.from_counting.Common.{position_or_len, result_map_both, eqb-false, AllByRecursion, list_any, and_parts, both_ways, or_parts, true≢false, not-false, nat_tests, bytes_eq-Decides, Within}
 use Rattle.graph_core.proofs.Common.{Graph, HasNoLoop, IsGraph, IsMultigraph, size}
-use Rattle.line_text.specs.declared.faults.FaultKind.TheVariants as kind
-use Rattle.line_text.specs.Common.{checked, finish, step, go_on, reading_from, reading_of, SignificantLine, significant_lines_of, lines_of}
-use Rattle.line_text.proofs.InRange.{in_range}
+use Rattle.graph_core.specs.from_line_text.declared.faults.FaultKind.TheVariants as kind
+use Rattle.graph_core.specs.from_line_text.Common.{checked, finish, step, go_on, reading_from, reading_of, SignificantLine, significant_lines_of, lines_of}
+use Rattle.graph_core.proofs.from_line_text.InRange.{in_range}
 use Rattle.graph_text.specs.Common.{EitherSoFar, NamedGraph, either_header, either_version, end_behind, line_behind, named_edge_line, vertex_line, GraphSoFar, edge_line, graph_line, is_among, vertex_of}
 
 -- the two are different vertices

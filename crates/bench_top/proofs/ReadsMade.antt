@@ -1,9 +1,9 @@
 -- What was read by the time that loading ends is the first few names; and where a read failed
 -- over a steady shelf, its file is not held.
-use Rattle.counting.proofs.Common.{◌≡◌, ℕ, List, Bool, IsTrue, Result, length, arith, take_all}
+use Rattle.move_text.proofs.from_counting.Common.{◌≡◌, ℕ, List, Bool, IsTrue, Result, length, arith, take_all}
 use Rattle.outside.specs.Common.{Answer, ReadsFirst}
-use Rattle.bench_tasks.specs.Common.{Loaded, Absent, FailsAs, IsReadFault, ReadsAs}
-use Rattle.bench_tasks.specs.declared.stop.Stop.{Stop}
+use Rattle.bench_reports.specs.from_bench_tasks.Common.{Loaded, Absent, FailsAs, IsReadFault, ReadsAs}
+use Rattle.bench_reports.specs.from_bench_tasks.declared.stop.Stop.{Stop}
 
 module _ {S X : Type 0} (reads : S → List ℕ → Answer → S → Type 0) (names : List (List ℕ)) (first last : S) where
   -- they are the first few

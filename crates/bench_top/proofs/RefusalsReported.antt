@@ -4,11 +4,11 @@
 use Rattle.std.proofs.Common.{◌≡◌, ◌⊎◌, ◌∙◌, inl, inr, ℕ, List, Bool, true, false, Option, Some, None, is_some, refl, sym, ap, subst, arith}
 use Rattle.outside.specs.Common.{appended}
 use Rattle.refusals.specs.declared.refusal.Refusal.{Refusal}
-use Rattle.bench_tasks.specs.Common.{Task}
-use Rattle.bench_tasks.specs.Tasks as task
-use Rattle.bench_outcomes.specs.Common.{IsPlaced, IsSettled, is_negative, told_by}
-use Rattle.bench_outcomes.specs.declared.status.Status.{Status}
-use Rattle.bench_outcomes.specs.declared.status.Status.TheVariants.{Negative, Usage, ReadFault, BadInput, WriteFault, Memory}
+use Rattle.bench_reports.specs.from_bench_tasks.Common.{Task}
+use Rattle.bench_reports.specs.from_bench_tasks.Tasks as task
+use Rattle.bench_reports.specs.from_bench_outcomes.Common.{IsPlaced, IsSettled, is_negative, told_by}
+use Rattle.bench_reports.specs.from_bench_outcomes.declared.status.Status.{Status}
+use Rattle.bench_reports.specs.from_bench_outcomes.declared.status.Status.TheVariants.{Negative, Usage, ReadFault, BadInput, WriteFault, Memory}
 use Rattle.bench_top.specs.Calm.{HasRead}
 use Rattle.bench_top.specs.Endings.{ReportedRefusal}
 

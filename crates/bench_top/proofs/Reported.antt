@@ -3,10 +3,10 @@
 use Rattle.std.proofs.Common.{◌≡◌, ◌∙◌, ℕ, List, [], ◌∷◌, ◌++◌, map, false, Option, Some, None, Ok, refl, sym, ap, subst, append_assoc, append-nil, inl, inr}
 use Rattle.std.proofs.lemmas.List.{append_cancel_left}
 use Rattle.outside.specs.Common.{Answer, AnswersInTurn, HasPrinted, IsOpened, NamedFile, NotesFiles, OpenState, PrintState, named_texts}
-use Rattle.bench_tasks.specs.Common.{All, Bad, Absent, Command, Loaded, Task, by_place, command_of, loaded, names_in}
-use Rattle.bench_outcomes.specs.Common.{CommandGives, IsSettled, LoadedGives, code_of}
-use Rattle.bench_outcomes.specs.declared.status.Status.{Status}
-use Rattle.bench_outcomes.specs.declared.status.Status.TheVariants.{Done, Negative, BadInput}
+use Rattle.bench_reports.specs.from_bench_tasks.Common.{All, Bad, Absent, Command, Loaded, Task, by_place, command_of, loaded, names_in}
+use Rattle.bench_reports.specs.from_bench_outcomes.Common.{CommandGives, IsSettled, LoadedGives, code_of}
+use Rattle.bench_reports.specs.from_bench_outcomes.declared.status.Status.{Status}
+use Rattle.bench_reports.specs.from_bench_outcomes.declared.status.Status.TheVariants.{Done, Negative, BadInput}
 use Rattle.bench_top.proofs.PlacedFiles.{all-returned, loaded-places}
 use Rattle.bench_top.specs.Given.{GivenOutcome}
 use Rattle.bench_top.specs.Installed.{EndsOn, HasReported, IsReportOn, nothing_given, nothing_printed}

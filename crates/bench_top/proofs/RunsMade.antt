@@ -4,13 +4,13 @@
 use Rattle.std.proofs.Common.{◌≡◌, ◌⊎◌, inl, inr, ℕ, List, [], Bool, IsTrue, Option, Some, None, refl, arith}
 use Rattle.std.proofs.lemmas.Option.{none-some}
 use Rattle.outside.specs.Common.{Answer, NamedFile, Rose}
-use Rattle.bench_tasks.specs.Common.{Command, Loaded, All, Bad, Absent, Task}
-use Rattle.bench_outcomes.specs.Common.{Appended, CutShort, IsReported, IsSettled, LoadedGives}
-use Rattle.bench_outcomes.specs.declared.status.Status.{Status}
-use Rattle.bench_outcomes.specs.declared.status.Status.TheVariants.{Done, Negative, Usage, ReadFault, BadInput, WriteFault, Memory}
+use Rattle.bench_reports.specs.from_bench_tasks.Common.{Command, Loaded, All, Bad, Absent, Task}
+use Rattle.bench_reports.specs.from_bench_outcomes.Common.{Appended, CutShort, IsReported, IsSettled, LoadedGives}
+use Rattle.bench_reports.specs.from_bench_outcomes.declared.status.Status.{Status}
+use Rattle.bench_reports.specs.from_bench_outcomes.declared.status.Status.TheVariants.{Done, Negative, Usage, ReadFault, BadInput, WriteFault, Memory}
 use Rattle.bench_top.specs.Calm.{IsCalm}
 use Rattle.bench_top.specs.Runs.{RunsTo}
-use Rattle.bench_tasks.specs.declared.stop.Stop.{Stop}
+use Rattle.bench_reports.specs.from_bench_tasks.declared.stop.Stop.{Stop}
 use Rattle.bench_top.specs.Endings.{IsStopOf, ReportedBad}
 
 -- nothing is an outcome of a file that is not held

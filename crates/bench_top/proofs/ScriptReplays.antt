@@ -2,20 +2,20 @@
 -- holds it is read as this script, and its replay on the first tree is done and reports the second.
 use Rattle.std.proofs.Common.{◌≡◌, ◌∙◌, ℕ, ◌≤◌, List, [], ◌∷◌, length, Option, Some, refl, sym, ap, ap₂, subst, inl, codes, arith}
 use Rattle.outside.specs.Common.{NamedFile, file_named, most_bytes}
-use Rattle.line_text.specs.Common.{reading_of}
-use Rattle.line_text.proofs.ExactlyOne.{Stands-reading_of}
+use Rattle.graph_core.specs.from_line_text.Common.{reading_of}
+use Rattle.graph_core.proofs.from_line_text.ExactlyOne.{Stands-reading_of}
 use Rattle.graph_text.specs.Common.{NamedGraph, either_version}
-use Rattle.tree_core.proofs.Common.{PlainMove, Shape}
-use Rattle.tree_text.specs.Common.{tree_format, tree_text}
+use Rattle.move_text.proofs.from_tree_core.Common.{PlainMove, Shape}
+use Rattle.move_text.specs.from_tree_text.Common.{tree_format, tree_text}
 use Rattle.move_text.specs.Common.{move_format}
-use Rattle.report_text.specs.Common.{replayed_text}
-use Rattle.bench_outcomes.specs.Common.{ScriptGives, Scripted, LoadedGives, Outcome}
-use Rattle.bench_tasks.specs.Common.{Loaded, All, Bad, Absent, and_then, file_read, loaded_as, move_file, moves_given, on_moves, on_trees, tree_file, tree_given, trees_given, OnMoves}
+use Rattle.mcg6_lines.specs.from_report_text.Common.{replayed_text}
+use Rattle.bench_reports.specs.from_bench_outcomes.Common.{ScriptGives, Scripted, LoadedGives, Outcome}
+use Rattle.bench_reports.specs.from_bench_tasks.Common.{Loaded, All, Bad, Absent, and_then, file_read, loaded_as, move_file, moves_given, on_moves, on_trees, tree_file, tree_given, trees_given, OnMoves}
 use Rattle.bench_top.specs.RoundTrips.{ReplaysScript}
-use Rattle.bench_tasks.specs.declared.verbs.MovesVerb.TheVariants.{Replay}
-use Rattle.bench_tasks.specs.declared.verbs.TreesVerb.TheVariants.{Script}
-use Rattle.bench_outcomes.specs.declared.status.Status.{Status}
-use Rattle.bench_outcomes.specs.declared.status.Status.TheVariants.{Done}
+use Rattle.bench_reports.specs.from_bench_tasks.declared.verbs.MovesVerb.TheVariants.{Replay}
+use Rattle.bench_reports.specs.from_bench_tasks.declared.verbs.TreesVerb.TheVariants.{Script}
+use Rattle.bench_reports.specs.from_bench_outcomes.declared.status.Status.{Status}
+use Rattle.bench_reports.specs.from_bench_outcomes.declared.status.Status.TheVariants.{Done}
 use Rattle.bench_top.proofs.Completeness.{status-once}
 use Rattle.bench_top.proofs.OneOutput.{output-once}
 use Rattle.bench_top.proofs.WrittenBack.{done-asks}

@@ -2,9 +2,9 @@
 -- Each lemma goes by the cases of the answer.
 use Rattle.std.proofs.Common.{ℕ, List, Bool, Result, arith}
 use Rattle.outside.specs.Common.{Answer}
-use Rattle.bench_tasks.specs.Common.{FailsAs, Held, IsReadFault, LoadsAs, ReadsAs, task_of}
-use Rattle.bench_tasks.specs.declared.stop.Stop.{Stop}
-use Rattle.bench_tasks.specs.declared.tasks.Task.TheVariants as code
+use Rattle.bench_reports.specs.from_bench_tasks.Common.{FailsAs, Held, IsReadFault, LoadsAs, ReadsAs, task_of}
+use Rattle.bench_reports.specs.from_bench_tasks.declared.stop.Stop.{Stop}
+use Rattle.bench_reports.specs.from_bench_tasks.declared.tasks.Task.TheVariants as code
 use Rattle.bench_top.specs.Endings.{IsStopOf, StopsAfter, Unread, stop_in}
 
 pub unread : {X : Type 0} (result : Result X Stop) → IsReadFault result → Unread (stop_in result)

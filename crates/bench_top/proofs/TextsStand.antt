@@ -3,27 +3,27 @@
 -- make all numbers of the comments small.
 use Rattle.std.proofs.Common.{◌≡◌, ℕ, ◌<◌, ◌≤◌, ◌^◌, List, [], ◌∷◌, ◌++◌, length, map, true, None, refl, arith, append_assoc, not, codes, decimal}
 use Rattle.std.proofs.lemmas.List.Sums.{count_by-le-length}
-use Rattle.line_text.specs.Common.{Stands, is_closed, is_word, unwords}
-use Rattle.line_text.proofs.Decimals.{is_word-decimal}
-use Rattle.line_text.proofs.ReadBack.{is_closed-unlines}
+use Rattle.graph_core.specs.from_line_text.Common.{Stands, is_closed, is_word, unwords}
+use Rattle.graph_core.proofs.from_line_text.Decimals.{is_word-decimal}
+use Rattle.graph_core.proofs.from_line_text.ReadBack.{is_closed-unlines}
 use Rattle.graph_core.proofs.Common.{Graph, IsGraph, size, singles}
 use Rattle.graph_text.specs.Common.{either_version, FitsVersionOne, version_one, graph_text, graph_words}
 use Rattle.graph_text.proofs.VersionOneReadBack.{Stands-graph_text}
 use Rattle.graph_text.proofs.Versions.{Stands-either}
-use Rattle.tree_core.proofs.Common.{IsDerivation, IsDerivationAt, kept_at, merged_at, leaves, Shape, leaf, cut, IsTally, is_brick, fits-derivation, stands-derivation, leaf_count-cuts, length-leaves_at, node_count-cuts, few-nodes}
-use Rattle.tree_text.specs.Common.{tree_format, ShoresRise, tree_text}
-use Rattle.tree_text.proofs.TreeReadBack.{Stands-tree_text}
-use Rattle.ear_core.specs.Common.{IsEarList, PlainEars}
-use Rattle.ear_core.proofs.Stepping.{list-filled, list-fits}
+use Rattle.move_text.proofs.from_tree_core.Common.{IsDerivation, IsDerivationAt, kept_at, merged_at, leaves, Shape, leaf, cut, IsTally, is_brick, fits-derivation, stands-derivation, leaf_count-cuts, length-leaves_at, node_count-cuts, few-nodes}
+use Rattle.move_text.specs.from_tree_text.Common.{tree_format, ShoresRise, tree_text}
+use Rattle.move_text.proofs.from_tree_text.TreeReadBack.{Stands-tree_text}
+use Rattle.ear_text.specs.from_ear_core.Common.{IsEarList, PlainEars}
+use Rattle.ear_text.proofs.from_ear_core.Stepping.{list-filled, list-fits}
 use Rattle.ear_text.specs.EarFormat.{ear_format}
 use Rattle.ear_text.specs.Writing.{ears_text, header_words, start_words, step_words}
 use Rattle.ear_text.proofs.EarsReadBack.{Stands-ears_text}
-use Rattle.report_text.specs.Common.{IsCommented, ears_report_text, steps_line, grown_text, growth_lines, order_line, pairs_line, moves_line, replayed_text}
-use Rattle.tree_core.specs.declared.tallies.Tally.{Tally}
-use Rattle.report_text.proofs.Comments.{commented-both, commented-line, commented-tail, stands-commented}
-use Rattle.bench_outcomes.specs.Common.{double_count, is_single, single_count}
-use Rattle.bench_outcomes.proofs.DerivationTexts.{closed-tree_text, has-vertices}
-use Rattle.bench_outcomes.proofs.EarSteps.{few-steps}
+use Rattle.mcg6_lines.specs.from_report_text.Common.{IsCommented, ears_report_text, steps_line, grown_text, growth_lines, order_line, pairs_line, moves_line, replayed_text}
+use Rattle.move_text.specs.from_tree_core.declared.tallies.Tally.{Tally}
+use Rattle.mcg6_lines.proofs.from_report_text.Comments.{commented-both, commented-line, commented-tail, stands-commented}
+use Rattle.bench_reports.specs.from_bench_outcomes.Common.{double_count, is_single, single_count}
+use Rattle.bench_reports.proofs.from_bench_outcomes.DerivationTexts.{closed-tree_text, has-vertices}
+use Rattle.bench_reports.proofs.from_bench_outcomes.EarSteps.{few-steps}
 use Rattle.bench_top.proofs.ReadGraphs.{IsRead}
 
 -- the comment after an ear list

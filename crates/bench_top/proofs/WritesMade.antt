@@ -3,9 +3,9 @@
 -- ruled out.
 use Rattle.std.proofs.Common.{◌≡◌, ◌⊎◌, inl, inr, ℕ, List, refl, sym, subst, arith, Option}
 use Rattle.outside.specs.Common.{IsWritten, appended}
-use Rattle.bench_outcomes.specs.Common.{Appended, CutShort, IsReported}
-use Rattle.bench_outcomes.specs.declared.status.Status.{Status}
-use Rattle.bench_outcomes.specs.declared.status.Status.TheVariants.{Done, Negative, Usage, ReadFault, BadInput, WriteFault, Memory}
+use Rattle.bench_reports.specs.from_bench_outcomes.Common.{Appended, CutShort, IsReported}
+use Rattle.bench_reports.specs.from_bench_outcomes.declared.status.Status.{Status}
+use Rattle.bench_reports.specs.from_bench_outcomes.declared.status.Status.TheVariants.{Done, Negative, Usage, ReadFault, BadInput, WriteFault, Memory}
 use Rattle.bench_top.specs.Writes.{WritesAs}
 
 -- any other status is not that of a report

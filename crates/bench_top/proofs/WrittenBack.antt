@@ -1,40 +1,40 @@
 -- What is written is read back. An output that stands for a value is read as this value by a file
 -- that holds it, and the value is one with which a further command succeeds: a derivation, an ear
 -- list, a matching covered graph.
-use Rattle.counting.proofs.Common.{◌≡◌, ◌∙◌, ℕ, ◌≤◌, ◌<◌, ◌^◌, nat_le, List, [], ◌∷◌, length, Option, Some, None, Result, Ok, inl, inr, refl, sym, subst, ap, arith, option_map, codes, leb-true, and_parts}
+use Rattle.move_text.proofs.from_counting.Common.{◌≡◌, ◌∙◌, ℕ, ◌≤◌, ◌<◌, ◌^◌, nat_le, List, [], ◌∷◌, length, Option, Some, None, Result, Ok, inl, inr, refl, sym, subst, ap, arith, option_map, codes, leb-true, and_parts}
 use Rattle.outside.specs.Common.{NamedFile, file_named, most_bytes}
-use Rattle.line_text.specs.Common.{Stands, reading_of}
-use Rattle.line_text.proofs.ExactlyOne.{Stands-from_reading, Stands-reading_of}
+use Rattle.graph_core.specs.from_line_text.Common.{Stands, reading_of}
+use Rattle.graph_core.proofs.from_line_text.ExactlyOne.{Stands-from_reading, Stands-reading_of}
 use Rattle.graph_core.proofs.Common.{size}
-use Rattle.line_text.specs.declared.faults.FaultKind.{FaultKind}
+use Rattle.graph_core.specs.from_line_text.declared.faults.FaultKind.{FaultKind}
 use Rattle.graph_text.specs.Common.{NamedGraph, either_version, FitsVersionOne}
-use Rattle.grow_gen.specs.Common.{grown}
-use Rattle.tight_cuts.specs.Common.{Candidate}
-use Rattle.tree_core.proofs.Common.{IsDerivation, PlainMove, Shape}
-use Rattle.tree_text.specs.Common.{tree_format}
-use Rattle.tree_check.proofs.ReplaySteps.{reached-derivation}
+use Rattle.bench_reports.specs.from_grow_gen.Common.{grown}
+use Rattle.bench_reports.specs.from_tight_cuts.Common.{Candidate}
+use Rattle.move_text.proofs.from_tree_core.Common.{IsDerivation, PlainMove, Shape}
+use Rattle.move_text.specs.from_tree_text.Common.{tree_format}
+use Rattle.bench_reports.proofs.from_tree_check.ReplaySteps.{reached-derivation}
 use Rattle.move_text.specs.Common.{move_format}
 use Rattle.move_text.proofs.MovesRead.{writable-read}
 use Rattle.ear_text.specs.EarFormat.{ear_format}
-use Rattle.bench_tasks.specs.Common.{Command, OnEars, OnGraph, OnTree, command_of, decompose_in, Loaded, All, Bad, Absent, and_then, ear_file, ears_given, file_read, graph_file, loaded, loaded_as, move_file, moves_given, on_ears, on_moves, on_picks, on_tree, pick_file, picks_given, tree_file, tree_given, Task}
-use Rattle.decomposer.specs.Common.{order_named}
-use Rattle.ear_core.specs.Common.{PlainEars}
-use Rattle.bench_outcomes.specs.Common.{EarsGives, Grown, CommandGives, DecomposeGives, LoadedGives, Outcome, ResultOf, ReplayGives}
+use Rattle.bench_reports.specs.from_bench_tasks.Common.{Command, OnEars, OnGraph, OnTree, command_of, decompose_in, Loaded, All, Bad, Absent, and_then, ear_file, ears_given, file_read, graph_file, loaded, loaded_as, move_file, moves_given, on_ears, on_moves, on_picks, on_tree, pick_file, picks_given, tree_file, tree_given, Task}
+use Rattle.mcg6_lines.specs.from_decomposer.Common.{order_named}
+use Rattle.ear_text.specs.from_ear_core.Common.{PlainEars}
+use Rattle.bench_reports.specs.from_bench_outcomes.Common.{EarsGives, Grown, CommandGives, DecomposeGives, LoadedGives, Outcome, ResultOf, ReplayGives}
 use Rattle.bench_top.specs.RoundTrips.{AsksDone}
-use Rattle.bench_tasks.specs.Tasks as task
-use Rattle.bench_tasks.specs.declared.verbs.GraphVerb.TheVariants.{Decompose, Ears}
-use Rattle.bench_tasks.specs.declared.verbs.TreeVerb.TheVariants.{Check}
-use Rattle.bench_tasks.specs.declared.verbs.PicksVerb.TheVariants.{DecomposeBy}
-use Rattle.bench_tasks.specs.declared.verbs.EarsVerb.TheVariants.{CheckEars}
-use Rattle.bench_tasks.specs.declared.verbs.MovesVerb.TheVariants.{Replay}
-use Rattle.decomposer.specs.declared.orders.NamedOrder.{NamedOrder}
-use Rattle.decomposer.specs.declared.orders.NamedOrder.TheVariants.{First}
-use Rattle.bench_outcomes.specs.declared.status.Status.TheVariants.{Done}
+use Rattle.bench_reports.specs.from_bench_tasks.Tasks as task
+use Rattle.bench_reports.specs.from_bench_tasks.declared.verbs.GraphVerb.TheVariants.{Decompose, Ears}
+use Rattle.bench_reports.specs.from_bench_tasks.declared.verbs.TreeVerb.TheVariants.{Check}
+use Rattle.bench_reports.specs.from_bench_tasks.declared.verbs.PicksVerb.TheVariants.{DecomposeBy}
+use Rattle.bench_reports.specs.from_bench_tasks.declared.verbs.EarsVerb.TheVariants.{CheckEars}
+use Rattle.bench_reports.specs.from_bench_tasks.declared.verbs.MovesVerb.TheVariants.{Replay}
+use Rattle.mcg6_lines.specs.from_decomposer.declared.orders.NamedOrder.{NamedOrder}
+use Rattle.mcg6_lines.specs.from_decomposer.declared.orders.NamedOrder.TheVariants.{First}
+use Rattle.bench_reports.specs.from_bench_outcomes.declared.status.Status.TheVariants.{Done}
 use Rattle.bench_top.proofs.FileReads.{file_read-value}
-use Rattle.bench_outcomes.proofs.GrownSizes.{few-edges, few-vertices, grown-multigraph}
+use Rattle.bench_reports.proofs.from_bench_outcomes.GrownSizes.{few-edges, few-vertices, grown-multigraph}
 use Rattle.bench_top.proofs.LoadedGraphs.{Holds, graph-holds, loaded-graph}
 use Rattle.bench_top.proofs.ReadGraphs.{HasGraph, IsRead}
-use Rattle.bench_outcomes.proofs.Settled.{KeepsGraph}
+use Rattle.bench_reports.proofs.from_bench_outcomes.Settled.{KeepsGraph}
 use Rattle.bench_top.proofs.TextsStand.{few-leaves_of, stands-ears, stands-grown, stands-replayed}
 
 -- what was held if a command was done

@@ -2,8 +2,8 @@
 -- Stated by no contract. Used by: bench_top.
 use Rattle.std.specs.Prelude.{ℕ, ◌⊎◌, Bool, IsTrue}
 use Rattle.outside.specs.Common.{Rose}
-use Rattle.bench_outcomes.specs.declared.status.Status.{Status}
-use Rattle.bench_outcomes.specs.declared.status.Status.TheVariants as status
+use Rattle.bench_reports.specs.from_bench_outcomes.declared.status.Status.{Status}
+use Rattle.bench_reports.specs.from_bench_outcomes.declared.status.Status.TheVariants as status
 
 -- the sink's count of faults did not rise, and the shelf is steady or its count did not rise
 pub record IsCalm (steady : Bool) (shelf_before shelf_now sink_before sink_now : ℕ) : Type 0 where

@@ -3,14 +3,14 @@
 -- Stated by: bench_top.
 use Rattle.std.specs.Prelude.{◌≡◌, ◌≤◌, ◌<◌, ℕ, List, Bool, IsTrue, length, take, Option, Some, None, Result, Ok, Err}
 use Rattle.outside.specs.Common.{Answer, ReadsInTurn, appended}
-use Rattle.line_text.specs.Common.{kind_number}
-use Rattle.line_text.specs.declared.faults.FaultKind.{FaultKind}
-use Rattle.report_text.specs.Common.{bad_input_text}
+use Rattle.graph_core.specs.from_line_text.Common.{kind_number}
+use Rattle.graph_core.specs.from_line_text.declared.faults.FaultKind.{FaultKind}
+use Rattle.mcg6_lines.specs.from_report_text.Common.{bad_input_text}
 use Rattle.refusals.specs.declared.refusal.Refusal.{Refusal}
-use Rattle.bench_tasks.specs.Common.{Loaded, Bad, Absent}
-use Rattle.bench_tasks.specs.declared.stop.Stop.{Stop}
-use Rattle.bench_tasks.specs.declared.stop.Stop.TheVariants as stop
-use Rattle.bench_outcomes.specs.Common.{refusal_told}
+use Rattle.bench_reports.specs.from_bench_tasks.Common.{Loaded, Bad, Absent}
+use Rattle.bench_reports.specs.from_bench_tasks.declared.stop.Stop.{Stop}
+use Rattle.bench_reports.specs.from_bench_tasks.declared.stop.Stop.TheVariants as stop
+use Rattle.bench_reports.specs.from_bench_outcomes.Common.{refusal_told}
 
 -- why nothing was loaded, if nothing was
 abbrev pub stop_in : {X : Type 0} → Result X Stop → Option Stop

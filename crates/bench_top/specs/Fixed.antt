@@ -4,9 +4,9 @@
 -- perfect matching, or the perfect matching that crosses a refused cut.
 -- Stated by: bench_top.
 use Rattle.std.specs.Prelude.{◌≡◌, ◌⊎◌, ◌++◌, ℕ, List}
-use Rattle.report_text.specs.Common.{numbers_text}
-use Rattle.bench_outcomes.specs.Common.{Conduct, Writes, Tells, Needs, Chooses, conduct_of}
-use Rattle.bench_tasks.specs.Common.{Task}
+use Rattle.mcg6_lines.specs.from_report_text.Common.{numbers_text}
+use Rattle.bench_reports.specs.from_bench_outcomes.Common.{Conduct, Writes, Tells, Needs, Chooses, conduct_of}
+use Rattle.bench_reports.specs.from_bench_tasks.Common.{Task}
 
 -- the numbers that a report may show by a conduct
 abbrev pub ShownBy : Conduct → List ℕ → Type 0

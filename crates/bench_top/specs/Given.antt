@@ -4,11 +4,11 @@
 use Rattle.std.specs.Prelude.{◌≡◌, ◌<◌, ℕ, ◌+◌, List, [], ◌∷◌, length, Option, Ok, Err, option_map}
 use Rattle.outside.specs.Common.{Answer, AnswersInTurn, NamedFile, most_bytes}
 use Rattle.outside.specs.declared.shelf.ShelfFault.TheVariants.{Failed, TooLong, Memory}
-use Rattle.bench_tasks.specs.Common.{by_place, failures_of, LastFailed, place_name, Command, names_in}
-use Rattle.bench_outcomes.specs.Common.{CommandGives}
-use Rattle.bench_outcomes.specs.declared.status.Status.{Status}
-use Rattle.bench_outcomes.specs.declared.status.Status.TheVariants as status
-use Rattle.bench_outcomes.specs.declared.status.Status.TheVariants.{Done, Negative, Usage, ReadFault, BadInput, WriteFault}
+use Rattle.bench_reports.specs.from_bench_tasks.Common.{by_place, failures_of, LastFailed, place_name, Command, names_in}
+use Rattle.bench_reports.specs.from_bench_outcomes.Common.{CommandGives}
+use Rattle.bench_reports.specs.from_bench_outcomes.declared.status.Status.{Status}
+use Rattle.bench_reports.specs.from_bench_outcomes.declared.status.Status.TheVariants as status
+use Rattle.bench_reports.specs.from_bench_outcomes.declared.status.Status.TheVariants.{Done, Negative, Usage, ReadFault, BadInput, WriteFault}
 use Rattle.bench_top.specs.Writes.{WritesAs}
 
 -- the first file is the one at this place, with these bytes, and of the others that holds

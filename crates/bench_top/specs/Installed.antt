@@ -3,10 +3,10 @@
 -- Stated by: bench_top, theorems.
 use Rattle.std.specs.Prelude.{◌≡◌, ℕ, ◌+◌, List, [], ◌∷◌, ◌++◌, ◌⊎◌, length, false, Option, Some, None, option_map}
 use Rattle.outside.specs.Common.{HasPrinted, IsOpened, NamedFile, OpenState, PrintState, named_texts}
-use Rattle.bench_tasks.specs.Common.{Command, by_place, command_of, names_in, place_name}
-use Rattle.bench_outcomes.specs.Common.{CommandGives, IsSettled, code_of}
-use Rattle.bench_outcomes.specs.declared.status.Status.{Status}
-use Rattle.bench_outcomes.specs.declared.status.Status.TheVariants.{Usage, ReadFault, Memory}
+use Rattle.bench_reports.specs.from_bench_tasks.Common.{Command, by_place, command_of, names_in, place_name}
+use Rattle.bench_reports.specs.from_bench_outcomes.Common.{CommandGives, IsSettled, code_of}
+use Rattle.bench_reports.specs.from_bench_outcomes.declared.status.Status.{Status}
+use Rattle.bench_reports.specs.from_bench_outcomes.declared.status.Status.TheVariants.{Usage, ReadFault, Memory}
 use Rattle.bench_top.specs.Given.{GivenOutcome}
 use Rattle.bench_top.specs.Runs.{Runs}
 

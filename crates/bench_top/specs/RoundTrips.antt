@@ -4,14 +4,14 @@
 use Rattle.std.specs.Prelude.{◌≡◌, List, [], ◌∷◌, ℕ, Some, codes, length}
 use Rattle.outside.specs.Common.{NamedFile}
 use Rattle.graph_text.specs.Common.{NamedGraph}
-use Rattle.tree_core.specs.Common.{PlainMove, Shape, leaf_count}
-use Rattle.tree_text.specs.Common.{tree_text}
+use Rattle.move_text.specs.from_tree_core.Common.{PlainMove, Shape, leaf_count}
+use Rattle.move_text.specs.from_tree_text.Common.{tree_text}
 use Rattle.move_text.specs.Common.{moves_text}
-use Rattle.report_text.specs.Common.{replayed_text, script_report_text}
-use Rattle.bench_tasks.specs.Common.{Command, command_of, All, loaded, trees_given, Task}
-use Rattle.bench_outcomes.specs.Common.{Outcome, Succeeds}
-use Rattle.bench_outcomes.specs.declared.status.Status.{Status}
-use Rattle.bench_outcomes.specs.declared.status.Status.TheVariants.{Done}
+use Rattle.mcg6_lines.specs.from_report_text.Common.{replayed_text, script_report_text}
+use Rattle.bench_reports.specs.from_bench_tasks.Common.{Command, command_of, All, loaded, trees_given, Task}
+use Rattle.bench_reports.specs.from_bench_outcomes.Common.{Outcome, Succeeds}
+use Rattle.bench_reports.specs.from_bench_outcomes.declared.status.Status.{Status}
+use Rattle.bench_reports.specs.from_bench_outcomes.declared.status.Status.TheVariants.{Done}
 
 -- by these files the words ask for a task that succeeds; so `run` does it, if the outside does
 -- not fail and memory lasts

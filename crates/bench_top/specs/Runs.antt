@@ -2,12 +2,12 @@
 -- Stated by: bench_top. Used by: front_top.
 use Rattle.std.specs.Prelude.{◌≡◌, ◌⊎◌, ◌↔◌, ℕ, List, Bool, IsTrue, is_some, Option, Some, None}
 use Rattle.outside.specs.Common.{Rose, Answer, NamedFile, ReadsFirst, ReadsInTurn}
-use Rattle.bench_tasks.specs.Common.{Command, Task, All, Bad, Absent, loaded, file_names, names_in, names_until}
-use Rattle.bench_tasks.specs.declared.stop.Stop.{Stop}
+use Rattle.bench_reports.specs.from_bench_tasks.Common.{Command, Task, All, Bad, Absent, loaded, file_names, names_in, names_until}
+use Rattle.bench_reports.specs.from_bench_tasks.declared.stop.Stop.{Stop}
 use Rattle.refusals.specs.declared.refusal.Refusal.{Refusal}
-use Rattle.bench_outcomes.specs.Common.{CommandGives, MayRefuse, Appended, CutShort, IsPlaced, IsReported, IsSettled, Succeeds, is_negative}
-use Rattle.bench_outcomes.specs.declared.status.Status.{Status}
-use Rattle.bench_outcomes.specs.declared.status.Status.TheVariants as status
+use Rattle.bench_reports.specs.from_bench_outcomes.Common.{CommandGives, MayRefuse, Appended, CutShort, IsPlaced, IsReported, IsSettled, Succeeds, is_negative}
+use Rattle.bench_reports.specs.from_bench_outcomes.declared.status.Status.{Status}
+use Rattle.bench_reports.specs.from_bench_outcomes.declared.status.Status.TheVariants as status
 use Rattle.bench_top.specs.Calm.{HasRead, IsCalm}
 use Rattle.bench_top.specs.Endings.{IsStopOf, ReportedBad, ReportedRefusal, StopsAfter, Unread}
 use Rattle.bench_top.specs.Given.{GivenOutcome}

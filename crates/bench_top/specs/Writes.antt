@@ -2,8 +2,8 @@
 -- Stated by no contract. Used by: bench_top, theorems.
 use Rattle.std.specs.Prelude.{◌≡◌, ℕ, List, take, Option, Some}
 use Rattle.outside.specs.Common.{NamedFile, IsCutOff, IsWritten, appended}
-use Rattle.bench_outcomes.specs.declared.status.Status.{Status}
-use Rattle.bench_outcomes.specs.declared.status.Status.TheVariants.{Done, Negative, Usage, ReadFault, BadInput, WriteFault, Memory}
+use Rattle.bench_reports.specs.from_bench_outcomes.declared.status.Status.{Status}
+use Rattle.bench_reports.specs.from_bench_outcomes.declared.status.Status.TheVariants.{Done, Negative, Usage, ReadFault, BadInput, WriteFault, Memory}
 
 -- where the files are told, this is an output that they give with this status
 abbrev pub GivesTold : Option (List NamedFile) → (List NamedFile → Status → List ℕ → Type 0) → Status → List ℕ → Type 0

@@ -1,7 +1,7 @@
 //! How a run ended.
 
-use bench_outcomes::Status;
-use bench_tasks::Stop;
+use bench_reports::bench_outcomes::Status;
+use bench_reports::bench_tasks::Stop;
 use refusals::Refusal;
 
 /// How a run ended, for who has to say it in words.

@@ -2,11 +2,11 @@
 //! and memory decide.
 ghost use Rattle.std.specs.Prelude.{◌≡◌, ◌⊎◌, ◌↔◌, ℕ, List, [], map, string_bytes, Some, None};
 ghost use Rattle.outside.specs.Common.{IsRead, ReadsFirst, ReadsInTurn};
-ghost use Rattle.bench_tasks.specs.Common.{Command, command_of, All, Bad, Absent, loaded, file_names, names_in, names_until, Task};
-ghost use Rattle.bench_outcomes.specs.Common.{IsReported, IsSettled, Outcome, MayRefuse, Succeeds};
+ghost use Rattle.bench_reports.specs.from_bench_tasks.Common.{Command, command_of, All, Bad, Absent, loaded, file_names, names_in, names_until, Task};
+ghost use Rattle.bench_reports.specs.from_bench_outcomes.Common.{IsReported, IsSettled, Outcome, MayRefuse, Succeeds};
 
 use crate::running::run;
-use bench_outcomes::Status;
+use bench_reports::bench_outcomes::Status;
 use outside::{CountSink, MemShelf};
 use std::alloc::Global;
 

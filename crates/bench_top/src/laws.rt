@@ -1,11 +1,11 @@
 //! Laws of what the commands give.
 ghost use Rattle.std.specs.Prelude.{◌≡◌, ◌↔◌, ℕ, List, Some};
 ghost use Rattle.outside.specs.Common.{NamedFile};
-ghost use Rattle.bench_tasks.specs.Common.{Command, command_of, All, loaded, Task};
+ghost use Rattle.bench_reports.specs.from_bench_tasks.Common.{Command, command_of, All, loaded, Task};
 ghost use Rattle.bench_top.specs.Fixed.{DifferAtMostIn, HasChosenText, HasOneOutput, MayShow, ShowsNothingFree};
-ghost use Rattle.bench_outcomes.specs.Common.{Outcome, Succeeds};
-ghost use Rattle.bench_outcomes.specs.declared.status.Status.{Status};
-ghost use Rattle.bench_outcomes.specs.declared.status.Status.TheVariants.{BadInput, Done, Negative};
+ghost use Rattle.bench_reports.specs.from_bench_outcomes.Common.{Outcome, Succeeds};
+ghost use Rattle.bench_reports.specs.from_bench_outcomes.declared.status.Status.{Status};
+ghost use Rattle.bench_reports.specs.from_bench_outcomes.declared.status.Status.TheVariants.{BadInput, Done, Negative};
 
 /// Good files settle the status: it is Done exactly when the task succeeds (`Succeeds`), and
 /// Negative exactly when it does not.

@@ -23,8 +23,11 @@ mod performing;
 mod running;
 pub mod written_back;
 
-pub use bench_outcomes::Status;
+// Passed on to the crates above.
+pub use bench_reports::bench_outcomes::Status;
+pub use bench_reports::bench_tasks;
 pub use ending::RunEnding;
 pub use in_memory::run_in_memory;
 pub use installed::{Ended, program};
+pub use outside;
 pub use running::{run, run_ending};

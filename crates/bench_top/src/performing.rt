@@ -1,16 +1,16 @@
 //! A command from its files to its report.
 ghost use Rattle.std.specs.Prelude.{◌≡◌, ◌⊎◌, ◌↔◌, IsErrOf, IsOk, IfOk, IfErr, Some};
-ghost use Rattle.bench_tasks.specs.Common.{All, asked, Held, HasNoMissing, IsReadFault, LoadsAs, Task as HeldTask, task_of};
-ghost use Rattle.bench_outcomes.specs.Common.{GatheredMayRefuse, IsPlaced, IsReported, IsSettled, LoadedGives};
+ghost use Rattle.bench_reports.specs.from_bench_tasks.Common.{All, asked, Held, HasNoMissing, IsReadFault, LoadsAs, Task as HeldTask, task_of};
+ghost use Rattle.bench_reports.specs.from_bench_outcomes.Common.{GatheredMayRefuse, IsPlaced, IsReported, IsSettled, LoadedGives};
 ghost use Rattle.bench_top.specs.Endings.{ReportsBad, stop_in};
 ghost use Rattle.bench_top.specs.Runs.{RunsTo};
 
 use crate::ending::RunEnding;
-use bench_outcomes::{Report, Status};
+use bench_reports::bench_outcomes::{Report, Status};
+use bench_reports::bench_tasks::{Command, Stop, Task, gather};
 use bench_reports::judge;
-use bench_tasks::{Command, Stop, Task, gather};
+use mcg6_lines::report_text::bad_input;
 use outside::{Shelf, Sink, SinkFailed, emit};
-use report_text::bad_input;
 use std::alloc::Global;
 
 // Why the files were not loaded, where they were not.

@@ -1,12 +1,12 @@
 //! The top call, and the same with the file that stopped it and why the input was refused.
 ghost use Rattle.std.specs.Prelude.{map, string_bytes};
-ghost use Rattle.bench_tasks.specs.Common.{command_of};
+ghost use Rattle.bench_reports.specs.from_bench_tasks.Common.{command_of};
 ghost use Rattle.bench_top.specs.Runs.{Runs, RunsTo};
 
 use crate::ending::RunEnding;
 use crate::performing::perform;
-use bench_outcomes::Status;
-use bench_tasks::command_of;
+use bench_reports::bench_outcomes::Status;
+use bench_reports::bench_tasks::command_of;
 use outside::{Shelf, Sink};
 use std::alloc::Global;
 

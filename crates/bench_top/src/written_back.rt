@@ -6,10 +6,10 @@
 //! that `run` answers Done wherever the outside does not fail and memory lasts.
 ghost use Rattle.std.specs.Prelude.{◌≡◌, ◌≤◌, ℕ, List, [], ◌∷◌, codes, length, Some};
 ghost use Rattle.outside.specs.Common.{NamedFile, file_named, most_bytes};
-ghost use Rattle.bench_outcomes.specs.Common.{Outcome};
+ghost use Rattle.bench_reports.specs.from_bench_outcomes.Common.{Outcome};
 ghost use Rattle.bench_top.specs.RoundTrips.{AsksDone, ReplaysScript};
-ghost use Rattle.bench_outcomes.specs.declared.status.Status.{Status};
-ghost use Rattle.bench_outcomes.specs.declared.status.Status.TheVariants.{Done};
+ghost use Rattle.bench_reports.specs.from_bench_outcomes.declared.status.Status.{Status};
+ghost use Rattle.bench_reports.specs.from_bench_outcomes.declared.status.Status.TheVariants.{Done};
 
 /// `check` accepts what `decompose` writes of a matching covered graph, by a named order or by
 /// picks.

@@ -1,9 +1,9 @@
 -- A set with at least three vertices on both sides has two edges in its cut without a common end,
 -- or the ends of one edge of its cut separate the graph. If each edge of the cut has an end of the
 -- first one, no other edge leaves the set.
-use Rattle.counting.proofs.Common.{◌≡◌, ℕ, true, false, ◌==◌, ◌&&◌, ◌||◌, not, sym, ap, ◌∙◌, arith, inl, inr, ◌⊎◌, ne_eqb, eqb-false, and_parts, both_ways, cases_Bool, not-true, or_from, or_parts, count_member, count_minus, some_none, some_true, Within, Set, complement, minus, pair_set, singleton, some}
+use Rattle.graph_core.proofs.from_counting.Common.{◌≡◌, ℕ, true, false, ◌==◌, ◌&&◌, ◌||◌, not, sym, ap, ◌∙◌, arith, inl, inr, ◌⊎◌, ne_eqb, eqb-false, and_parts, both_ways, cases_Bool, not-true, or_from, or_parts, count_member, count_minus, some_none, some_true, Within, Set, complement, minus, pair_set, singleton, some}
 use Rattle.graph_core.proofs.Common.{IsCovered, Graph, HasEnds, IsGraph, first_end, in_cut, second_end, size, IsCutPair, IsNontrivial}
-use Rattle.barrier_kit.proofs.Common.{cut_edge}
+use Rattle.separation_kit.proofs.from_barrier_kit.Common.{cut_edge}
 use Rattle.brick_kit.proofs.CutEnds.{cut_ends, ends_within}
 use Rattle.brick_kit.proofs.PairSeparations.{beside_ends, separates}
 use Rattle.brick_kit.proofs.PartingShores.{ApartEdges}

@@ -2,7 +2,7 @@
 -- edges inside k. Such a matching is heaviest for one weight in which the lowered weights count for
 -- more than all edges inside; with its edges inside a swap set replaced by those of a heaviest
 -- matching it is again best.
-use Rattle.counting.proofs.Common.{◌≡◌, ◌≢◌, ℕ, suc, ◌+◌, ◌*◌, ◌≤◌, ◌<◌, true, false, ◌&&◌, nat_lt, refl, sym, ap, ap₂, ◌∙◌, arith, lt-ltb, cases_Bool, count_congr, count_le, Within, bit, count, Set, none, put}
+use Rattle.graph_core.proofs.from_counting.Common.{◌≡◌, ◌≢◌, ℕ, suc, ◌+◌, ◌*◌, ◌≤◌, ◌<◌, true, false, ◌&&◌, nat_lt, refl, sym, ap, ap₂, ◌∙◌, arith, lt-ltb, cases_Bool, count_congr, count_le, Within, bit, count, Set, none, put}
 use Rattle.graph_core.proofs.Common.{add_edge, bit_same, ends_le_degree, ends_of_is, Graph, HasEnds, IsGraph, degree, inside, size, IsMatching}
 use Rattle.brick_kit.proofs.EdgeSums.{weight_plus, weight_put, weight_test, weight_times}
 use Rattle.brick_kit.proofs.HeaviestMatchings.{heaviest_exists, heavy_heaviest, heavy_holds, heavy_part}

@@ -2,9 +2,9 @@
 -- vertices, or a cut pair. A shore of a bicritical graph gives a list of balanced shores, which is
 -- uncrossed until it gives a cut pair; a graph that is not bicritical has a barrier by the theorem
 -- of Tutte and Berge.
-use Rattle.counting.proofs.Common.{ℕ, suc, ◌+◌, ◌≤◌, ◌≢◌, ◌∷◌, ◌⊎◌, ◌↔◌, inl, inr, arith, cases_eq, two_members, scan, Within, bit, count, Set, pair_set}
+use Rattle.graph_core.proofs.from_counting.Common.{ℕ, suc, ◌+◌, ◌≤◌, ◌≢◌, ◌∷◌, ◌⊎◌, ◌↔◌, inl, inr, arith, cases_eq, two_members, scan, Within, bit, count, Set, pair_set}
 use Rattle.graph_core.proofs.Common.{covered_perfect, IsCovered, Graph, IsBipartite, IsMultigraph, in_cut, HasPerfect, IsPerfect, IsBarrier, IsBicritical, IsCutPair, IsNontrivial, IsTight}
-use Rattle.barrier_kit.proofs.Common.{equivalent_barrier, no_sides, perfect_or_not}
+use Rattle.separation_kit.proofs.from_barrier_kit.Common.{equivalent_barrier, no_sides, perfect_or_not}
 use Rattle.separation_kit.proofs.CutPairs.{brick_facts}
 use Rattle.brick_kit.proofs.Duality.{dual}
 use Rattle.brick_kit.proofs.PairsFromShores.{pair_below}

@@ -1,6 +1,6 @@
 -- No matching weighs more than a cover, and if one weighs as much, the cover is exact at its edges
 -- and its sets. The weight of a cover is summed vertex by vertex and set by set.
-use Rattle.counting.proofs.Common.{◌≡◌, ℕ, ◌+◌, ◌*◌, ◌/◌, ◌≤◌, Bool, true, ◌&&◌, List, sym, ap₂, ◌∙◌, arith, All, total_le, total_tight, Within, bit, count, total, Set, none}
+use Rattle.graph_core.proofs.from_counting.Common.{◌≡◌, ℕ, ◌+◌, ◌*◌, ◌/◌, ◌≤◌, Bool, true, ◌&&◌, List, sym, ap₂, ◌∙◌, arith, All, total_le, total_tight, Within, bit, count, total, Set, none}
 use Rattle.graph_core.proofs.Common.{degrees, Graph, IsGraph, degree, first_end, in_cut, inside, second_end, size, IsMatching}
 use Rattle.brick_kit.proofs.EdgeSums.{term_le, weight_le, weight_plus, weight_sum, weight_test}
 use Rattle.brick_kit.proofs.EndSums.{ends_weight}

@@ -1,9 +1,9 @@
 -- Two tight shores X and Y that cross: X ∩ Y or X ∪ Y is nontrivial, or the vertex in X ∩ Y and the
 -- vertex outside X ∪ Y separate the graph. If |X ∩ Y| is even, the complement of Y is taken
 -- instead. No edge joins X - Y with Y - X.
-use Rattle.counting.proofs.Common.{◌≡◌, ℕ, ◌≤◌, Bool, true, false, cond, ◌==◌, ◌&&◌, ◌||◌, not, sym, ap, ◌∙◌, arith, inl, inr, ◌⊎◌, ne_eqb, eqb-false, and_from, and_parts, both_ways, cases_Bool, not-true, or_from, or_parts, true≢false, or_left, only_one, count_member, odd-add, odd_three, count_mono, count_split, Within, count, is_odd, Set, complement, meet, minus, pair_set, union}
+use Rattle.graph_core.proofs.from_counting.Common.{◌≡◌, ℕ, ◌≤◌, Bool, true, false, cond, ◌==◌, ◌&&◌, ◌||◌, not, sym, ap, ◌∙◌, arith, inl, inr, ◌⊎◌, ne_eqb, eqb-false, and_from, and_parts, both_ways, cases_Bool, not-true, or_from, or_parts, true≢false, or_left, only_one, count_member, odd-add, odd_three, count_mono, count_split, Within, count, is_odd, Set, complement, meet, minus, pair_set, union}
 use Rattle.graph_core.proofs.Common.{no_edge_joins, union_tight, IsCovered, Graph, HasEnds, IsGraph, connects, first_end, in_cut, second_end, size, IsCutPair, IsNontrivial, IsTight}
-use Rattle.barrier_kit.proofs.Common.{tight-turned}
+use Rattle.separation_kit.proofs.from_barrier_kit.Common.{tight-turned}
 use Rattle.brick_kit.proofs.CutEnds.{cut_ends, ends_within}
 use Rattle.brick_kit.proofs.PairSeparations.{beside_ends, separates}
 use Rattle.brick_kit.proofs.PartingShores.{ApartEdges}

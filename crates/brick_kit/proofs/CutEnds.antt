@@ -1,6 +1,6 @@
 -- An edge by its two ends, in either order: whether it is in a cut, inside a set, in range.
 -- Idea: a truth table of the two bits at the ends.
-use Rattle.counting.proofs.Common.{◌≡◌, ℕ, true, false, ◌&&◌, arith, Within, Set}
+use Rattle.graph_core.proofs.from_counting.Common.{◌≡◌, ℕ, true, false, ◌&&◌, arith, Within, Set}
 use Rattle.graph_core.proofs.Common.{Graph, HasEnds, IsGraph, in_cut, inside, size}
 
 -- an edge of the cut has one end in x and the other outside

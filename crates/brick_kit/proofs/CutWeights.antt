@@ -1,6 +1,6 @@
 -- A perfect matching is heaviest for the weight "n, and one more in a tight cut". A matching that
 -- misses a vertex has fewer edges, and an edge weighs at least n.
-use Rattle.counting.proofs.Common.{◌≡◌, ℕ, suc, ◌+◌, ◌*◌, ◌≤◌, ◌&&◌, refl, ap₂, ◌∙◌, arith, mul-le-mul_left, and_parts, cases_eq, count_complement, count_mono, total_none, bit, count, Set, complement, none}
+use Rattle.graph_core.proofs.from_counting.Common.{◌≡◌, ℕ, suc, ◌+◌, ◌*◌, ◌≤◌, ◌&&◌, refl, ap₂, ◌∙◌, arith, mul-le-mul_left, and_parts, cases_eq, count_complement, count_mono, total_none, bit, count, Set, complement, none}
 use Rattle.graph_core.proofs.Common.{missed_edges, none_missed-perfect, perfect_matching, perfect_misses, Graph, IsGraph, edges_in_cut, in_cut, size, IsMatching, IsPerfect, missed_count, CutIsTight}
 use Rattle.brick_kit.proofs.EdgeSums.{weight_flat, weight_plus, weight_test}
 use Rattle.brick_kit.specs.Weights.{IsHeaviest, weight_of}

@@ -2,7 +2,7 @@
 -- weights. If each heaviest matching meets some vertex, the weights of the edges at that vertex are
 -- lowered; otherwise a component of the edges of positive weight is an odd set, and the weights of
 -- the edges inside it are lowered.
-use Rattle.counting.proofs.Common.{◌≡◌, ℕ, suc, zero, ◌≤◌, ◌<◌, ◌⊎◌, List, refl, sym, ◌∙◌, arith, inl, inr, and_from, cases_lt, scan, at_le_total, some_term, total_none, total_zero, Within, total, Set, none}
+use Rattle.graph_core.proofs.from_counting.Common.{◌≡◌, ℕ, suc, zero, ◌≤◌, ◌<◌, ◌⊎◌, List, refl, sym, ◌∙◌, arith, inl, inr, and_from, cases_lt, scan, at_le_total, some_term, total_none, total_zero, Within, total, Set, none}
 use Rattle.graph_core.proofs.Common.{none_matching, Graph, IsGraph, degree, first_end, inside, second_end, size}
 use Rattle.brick_kit.proofs.CoverBound.{Dual, cover_bound}
 use Rattle.brick_kit.proofs.CutEnds.{same_side}

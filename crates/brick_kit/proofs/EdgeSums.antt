@@ -1,6 +1,6 @@
 -- Weights as sums over the edges: of sums, multiples, constant weights and tests, and with one more
 -- edge. Idea: term by term over the edges.
-use Rattle.counting.proofs.Common.{◌≡◌, ℕ, ◌+◌, ◌*◌, ◌≤◌, ◌<◌, Bool, true, false, ◌&&◌, List, [], ◌∷◌, sym, ap, ◌∙◌, arith, mul-add, inl, inr, bit-and, cases_lt, total_put, total_add, total_congr, total_le, total_mul, total_none, total_tight, bit_times_le, Within, bit, count, total, Set, put}
+use Rattle.graph_core.proofs.from_counting.Common.{◌≡◌, ℕ, ◌+◌, ◌*◌, ◌≤◌, ◌<◌, Bool, true, false, ◌&&◌, List, [], ◌∷◌, sym, ap, ◌∙◌, arith, mul-add, inl, inr, bit-and, cases_lt, total_put, total_add, total_congr, total_le, total_mul, total_none, total_tight, bit_times_le, Within, bit, count, total, Set, put}
 use Rattle.graph_core.proofs.Common.{Graph, size}
 use Rattle.brick_kit.specs.Weights.{sum_over, weight_of}
 

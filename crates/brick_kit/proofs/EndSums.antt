@@ -1,6 +1,6 @@
 -- Numbers of the vertices times their degrees in an edge set add up to the numbers at the ends of
 -- its edges. The double sum is taken in the other order, for the first ends and for the second.
-use Rattle.counting.proofs.Common.{◌≡◌, ℕ, ◌+◌, ◌*◌, ◌==◌, ◌&&◌, sym, ap, ap₂, ◌∙◌, arith, mul-add, total_add, total_at, total_congr, total_mul, total_swap, Within, bit, count, total, Set}
+use Rattle.graph_core.proofs.from_counting.Common.{◌≡◌, ℕ, ◌+◌, ◌*◌, ◌==◌, ◌&&◌, sym, ap, ap₂, ◌∙◌, arith, mul-add, total_add, total_at, total_congr, total_mul, total_swap, Within, bit, count, total, Set}
 use Rattle.graph_core.proofs.Common.{bit_other, bit_same, Graph, IsGraph, degree, first_end, second_end, size}
 use Rattle.brick_kit.specs.Weights.{weight_of}
 

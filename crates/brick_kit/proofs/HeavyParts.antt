@@ -1,6 +1,6 @@
 -- The vertices that walks over edges of positive weight reach from a vertex. Walks are defined for
 -- any test of adjacency, so no new graph is needed.
-use Rattle.counting.proofs.Common.{◌≡◌, ℕ, ◌<◌, Bool, true, false, ◌&&◌, ◌||◌, not, List, nat_lt, lt-ltb, ◌++◌, ltb-true, arith, and_from, and_parts, some_true, true_some, Within, Set, some}
+use Rattle.graph_core.proofs.from_counting.Common.{◌≡◌, ℕ, ◌<◌, Bool, true, false, ◌&&◌, ◌||◌, not, List, nat_lt, lt-ltb, ◌++◌, ltb-true, arith, and_from, and_parts, some_true, true_some, Within, Set, some}
 use Rattle.graph_core.proofs.Common.{IsClosed, Walk-back, Walk-join, flood_closed, flood_own, flood_walk, has_ends-cases, has_ends-own, Graph, HasEnds, IsGraph, first_end, has_ends, in_cut, second_end, size, Walk, reaches}
 use Rattle.brick_kit.proofs.CutEnds.{ends_within}
 

@@ -22,3 +22,5 @@ pub mod UncrossedLists
 pub mod Crossings
 pub mod PairsFromShores
 pub mod Bricks
+-- Passed on to the crates above: from_NAME is all that the crate NAME has in its folder of this name.
+pub use Rattle.separation_kit.proofs as from_separation_kit

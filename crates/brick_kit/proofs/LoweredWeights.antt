@@ -1,6 +1,6 @@
 -- Weights lowered by one at those edges of a set that have positive weight. Edge by edge the old
 -- weight is the new one, plus one if it was positive.
-use Rattle.counting.proofs.Common.{◌≡◌, ℕ, ◌+◌, ◌-◌, ◌*◌, ◌≤◌, ◌<◌, true, ◌&&◌, nat_lt, ap, arith, total_congr, total_le, Within, bit, count, total, Set}
+use Rattle.graph_core.proofs.from_counting.Common.{◌≡◌, ℕ, ◌+◌, ◌-◌, ◌*◌, ◌≤◌, ◌<◌, true, ◌&&◌, nat_lt, ap, arith, total_congr, total_le, Within, bit, count, total, Set}
 use Rattle.graph_core.proofs.Common.{Graph, size}
 use Rattle.brick_kit.proofs.EdgeSums.{term_le, weight_plus, weight_test, total_less}
 use Rattle.brick_kit.specs.Weights.{weight_of}

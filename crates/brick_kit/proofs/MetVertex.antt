@@ -3,7 +3,7 @@
 -- one. So does the weight of a heaviest matching: otherwise a matching that is heaviest for the
 -- lowered weights would be heaviest for the weights, and have an edge at the vertex, where the two
 -- differ.
-use Rattle.counting.proofs.Common.{◌≡◌, ℕ, ◌+◌, ◌≤◌, ◌<◌, true, ◌==◌, ◌||◌, arith, eq-eqb, or_left, or_right, count_singleton, total_add, Within, bit, Set}
+use Rattle.graph_core.proofs.from_counting.Common.{◌≡◌, ℕ, ◌+◌, ◌≤◌, ◌<◌, true, ◌==◌, ◌||◌, arith, eq-eqb, or_left, or_right, count_singleton, total_add, Within, bit, Set}
 use Rattle.graph_core.proofs.Common.{edge_at, Graph, IsGraph, degree, first_end, second_end, size}
 use Rattle.brick_kit.proofs.CoverBound.{Dual, cover_bound}
 use Rattle.brick_kit.proofs.EdgeSums.{weight_drop}

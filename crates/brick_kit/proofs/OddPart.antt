@@ -2,7 +2,7 @@
 -- matching misses just one vertex of it. By induction on a walk between two vertices that a best
 -- matching would miss: the exchange makes another one miss a vertex of the walk. So the part
 -- becomes a set of a cover of the lowered weights, and makes it a cover of the weights.
-use Rattle.counting.proofs.Common.{◌≡◌, ◌≢◌, ℕ, suc, ◌+◌, ◌*◌, ◌/◌, ◌≤◌, ◌<◌, Bool, true, false, cond, ◌==◌, ◌&&◌, not, ◌⊎◌, nat_lt, List, [], ◌∷◌, sym, ap, ◌∙◌, arith, inl, inr, eqb-true, eq-eqb, subst, and_from, and_parts, cases_eq, All-cons, count_le_one, member_count, odd-double, Within, bit, count, is_odd, total, Set}
+use Rattle.graph_core.proofs.from_counting.Common.{◌≡◌, ◌≢◌, ℕ, suc, ◌+◌, ◌*◌, ◌/◌, ◌≤◌, ◌<◌, Bool, true, false, cond, ◌==◌, ◌&&◌, not, ◌⊎◌, nat_lt, List, [], ◌∷◌, sym, ap, ◌∙◌, arith, inl, inr, eqb-true, eq-eqb, subst, and_from, and_parts, cases_eq, All-cons, count_le_one, member_count, odd-double, Within, bit, count, is_odd, total, Set}
 use Rattle.graph_core.proofs.Common.{Graph, HasEnds, IsGraph, degree, in_cut, inside, size, Walk}
 use Rattle.brick_kit.proofs.BestMatchings.{HasWeight, IsBest, best_exists, best_has_all, best_swapped}
 use Rattle.brick_kit.proofs.CoverBound.{Dual, cover_bound}

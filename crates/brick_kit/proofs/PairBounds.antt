@@ -1,7 +1,7 @@
 -- For two vertices u and v of a bicritical graph, q(u) + q(v) is at most 2 s plus the number of
 -- members that separate u from v. The sums over a perfect matching of G and over one of G - u - v
 -- differ by q(u) + q(v).
-use Rattle.counting.proofs.Common.{◌≡◌, ℕ, suc, zero, ◌+◌, ◌*◌, ◌≤◌, ◌≢◌, Bool, true, false, ◌==◌, ◌&&◌, ◌||◌, not, List, [], ◌∷◌, sym, ap, ap₂, ◌∙◌, arith, mul-add, All, both_ways, All-head, All-tail, odd-double, total_add, total_congr, total_none, Within, bit, count, is_odd, total, Set, none, pair_set}
+use Rattle.graph_core.proofs.from_counting.Common.{◌≡◌, ℕ, suc, zero, ◌+◌, ◌*◌, ◌≤◌, ◌≢◌, Bool, true, false, ◌==◌, ◌&&◌, ◌||◌, not, List, [], ◌∷◌, sym, ap, ap₂, ◌∙◌, arith, mul-add, All, both_ways, All-head, All-tail, odd-double, total_add, total_congr, total_none, Within, bit, count, is_odd, total, Set, none, pair_set}
 use Rattle.graph_core.proofs.Common.{degrees, Graph, IsGraph, degree, edges_in_cut, first_end, in_cut, inside, second_end, size, IsPerfect, IsTight}
 use Rattle.brick_kit.specs.Balances.{IsBalanced, apart, parts}
 use Rattle.brick_kit.proofs.EndSums.{alone, ends_weight}

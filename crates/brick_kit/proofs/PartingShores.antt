@@ -1,7 +1,7 @@
 -- Two edges of the cut of a member without a common end: another member separates the one from the
 -- other. The numbers at the four ends say that the members separate the ends of the edges less
 -- often than the ends on the two sides.
-use Rattle.counting.proofs.Common.{◌≡◌, ℕ, ◌+◌, ◌≤◌, ◌<◌, ◌≢◌, Bool, true, false, ◌&&◌, ◌||◌, not, List, [], ◌∷◌, refl, ap₂, ◌∙◌, arith, inl, inr, All, cases_lt, All-cons, All-head, All-tail, Within, bit, Set}
+use Rattle.graph_core.proofs.from_counting.Common.{◌≡◌, ℕ, ◌+◌, ◌≤◌, ◌<◌, ◌≢◌, Bool, true, false, ◌&&◌, ◌||◌, not, List, [], ◌∷◌, refl, ap₂, ◌∙◌, arith, inl, inr, All, cases_lt, All-cons, All-head, All-tail, Within, bit, Set}
 use Rattle.graph_core.proofs.Common.{Graph, HasEnds, IsGraph, size, IsTight}
 use Rattle.brick_kit.proofs.CutEnds.{ends_within}
 use Rattle.brick_kit.proofs.SetSums.{sum_plus}

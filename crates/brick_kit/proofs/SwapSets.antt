@@ -1,6 +1,6 @@
 -- A set that no edge of two matchings leaves, grown vertex by vertex.
 -- Each vertex that comes brings at least one edge inside.
-use Rattle.counting.proofs.Common.{◌≡◌, ℕ, suc, zero, ◌+◌, ◌≤◌, ◌<◌, Bool, true, false, ◌==◌, ◌&&◌, ◌||◌, refl, sym, ◌∙◌, arith, inl, inr, eqb-true, eq-eqb, and_from, and_parts, cases_Bool, or_cases, or_left, count_le, count_more, count_plus, count_mono, count_singleton, some_none, some_true, Within, count, Set, singleton, union, some}
+use Rattle.graph_core.proofs.from_counting.Common.{◌≡◌, ℕ, suc, zero, ◌+◌, ◌≤◌, ◌<◌, Bool, true, false, ◌==◌, ◌&&◌, ◌||◌, refl, sym, ◌∙◌, arith, inl, inr, eqb-true, eq-eqb, and_from, and_parts, cases_Bool, or_cases, or_left, count_le, count_more, count_plus, count_mono, count_singleton, some_none, some_true, Within, count, Set, singleton, union, some}
 use Rattle.graph_core.proofs.Common.{Graph, HasEnds, IsGraph, in_cut, inside, size}
 use Rattle.brick_kit.proofs.CutEnds.{cut_ends, ends_inside, ends_within, same_side}
 use Rattle.brick_kit.proofs.Swaps.{Swaps}

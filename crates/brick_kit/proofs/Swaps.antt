@@ -1,7 +1,7 @@
 -- Two matchings exchanged inside a set that no edge of either leaves. The set has nearly as many
 -- edges inside as vertices, so the matching that misses one of its vertices has no more edges
 -- there.
-use Rattle.counting.proofs.Common.{◌≡◌, ℕ, ◌+◌, ◌*◌, ◌≤◌, ◌≢◌, Bool, true, false, cond, ◌==◌, ◌&&◌, ◌||◌, not, ◌⊎◌, refl, sym, ap, ap₂, ◌∙◌, arith, inl, inr, eqb-true, eq-eqb, and_from, cases_Bool, true≢false, and_left, and_right, count_congr, member_count, two_members, total_add, total_congr, total_none, Within, bit, count, total, Set, none}
+use Rattle.graph_core.proofs.from_counting.Common.{◌≡◌, ℕ, ◌+◌, ◌*◌, ◌≤◌, ◌≢◌, Bool, true, false, cond, ◌==◌, ◌&&◌, ◌||◌, not, ◌⊎◌, refl, sym, ap, ap₂, ◌∙◌, arith, inl, inr, eqb-true, eq-eqb, and_from, cases_Bool, true≢false, and_left, and_right, count_congr, member_count, two_members, total_add, total_congr, total_none, Within, bit, count, total, Set, none}
 use Rattle.graph_core.proofs.Common.{degrees, Graph, IsGraph, degree, first_end, in_cut, inside, second_end, size, IsMatching}
 use Rattle.brick_kit.specs.Weights.{weight_of}
 

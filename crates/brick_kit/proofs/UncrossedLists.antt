@@ -1,9 +1,9 @@
 -- A balanced list in which two members X and Y are replaced by X ∩ Y and X ∪ Y is balanced, and its
 -- members separate fewer pairs. For each pair of vertices X ∩ Y and X ∪ Y separate it as often as X
 -- and Y do, and twice less if one vertex is in X - Y and the other in Y - X.
-use Rattle.counting.proofs.Common.{◌≡◌, ℕ, ◌+◌, ◌*◌, ◌≤◌, ◌<◌, Bool, true, false, ◌&&◌, ◌||◌, not, List, ◌∷◌, refl, ap, ◌∙◌, arith, All-cons, All-head, All-tail, total_congr, total_le, Within, bit, count, is_odd, total, Set, complement, meet, minus, union}
+use Rattle.graph_core.proofs.from_counting.Common.{◌≡◌, ℕ, ◌+◌, ◌*◌, ◌≤◌, ◌<◌, Bool, true, false, ◌&&◌, ◌||◌, not, List, ◌∷◌, refl, ap, ◌∙◌, arith, All-cons, All-head, All-tail, total_congr, total_le, Within, bit, count, is_odd, total, Set, complement, meet, minus, union}
 use Rattle.graph_core.proofs.Common.{meet_tight, no_edge_joins, union_tight, IsCovered, Graph, IsGraph, first_end, second_end, IsTight}
-use Rattle.barrier_kit.proofs.Common.{tight-turned}
+use Rattle.separation_kit.proofs.from_barrier_kit.Common.{tight-turned}
 use Rattle.brick_kit.proofs.PartingShores.{Picked}
 use Rattle.brick_kit.specs.Balances.{IsBalanced, apart, parts}
 use Rattle.brick_kit.proofs.EdgeSums.{total_less}

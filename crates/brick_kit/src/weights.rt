@@ -34,7 +34,7 @@
 //! Source: Edmonds 1965; Cunningham and Marsh 1978; Schrijver, "Combinatorial Optimization",
 //! chapter 25.
 ghost use Rattle.std.specs.Prelude.{◌≡◌, ◌≤◌, ℕ, List};
-ghost use Rattle.counting.specs.Common.{Set, none};
+ghost use Rattle.graph_core.specs.from_counting.Common.{Set, none};
 ghost use Rattle.graph_core.specs.Common.{Graph, IsGraph, IsMatching};
 ghost use Rattle.brick_kit.specs.Weights.{IsCover, IsHeaviest, cover_value, weight_of};
 

@@ -1,7 +1,7 @@
 -- Lists of blocks as the code goes through them: the place of a block found by a scan, a block
 -- put in by its name, and how many blocks pass a test. Each is a recursion along the list, as the
 -- definition is.
-use Rattle.counting.proofs.Common.{◌≡◌, ℕ, ◌+◌, ◌-◌, ◌≤◌, ◌<◌, Bool, not, cond, nat_lt, List, [], ◌∷◌, length, refl, sym, ap, ◌∙◌, arith, zero, suc, get_or, insert, count_by, Option, Some, position, MatchOption, IfSome, IfNone, unwrap_or, if◌then◌else◌, subst, position_or_len, get_or-map, length-map, nat_tests, sum_by-cons, last-greatest, length-within, total_congr, Within, bit, count, total, IsGreatestOf, IsRisingIn, last_of, mem}
+use Rattle.graph_core.proofs.from_counting.Common.{◌≡◌, ℕ, ◌+◌, ◌-◌, ◌≤◌, ◌<◌, Bool, not, cond, nat_lt, List, [], ◌∷◌, length, refl, sym, ap, ◌∙◌, arith, zero, suc, get_or, insert, count_by, Option, Some, position, MatchOption, IfSome, IfNone, unwrap_or, if◌then◌else◌, subst, position_or_len, get_or-map, length-map, nat_tests, sum_by-cons, last-greatest, length-within, total_congr, Within, bit, count, total, IsGreatestOf, IsRisingIn, last_of, mem}
 use Rattle.itertools.specs.Consumer.{find_at}
 use Rattle.graph_core.proofs.Common.{mem_last, IsPartition, block, insert_block, names_of, place}
 

@@ -1,6 +1,6 @@
 -- Unions of blocks as the code tests them: the set contains all of each block, or none of it. If it
 -- contains one vertex of a block, it contains the block, so the block's name decides.
-use Rattle.counting.proofs.Common.{◌≡◌, ℕ, ◌<◌, ◌==◌, Bool, true, false, not, cond, ◌||◌, ◌&&◌, List, [], ◌∷◌, length, refl, sym, ap, ap₂, ◌∙◌, arith, inl, inr, filter, eq-eqb, ne_eqb, suc, list_all, both_ways, and_parts, and_from, or_cases, or_left, or_right, false_from_ne_true, not-true, mem-within, member-of_set, all_in_true, true_all_in, set-part, Within, IsRisingIn, all_in, is_apart, is_subset, last_of, mem}
+use Rattle.graph_core.proofs.from_counting.Common.{◌≡◌, ℕ, ◌<◌, ◌==◌, Bool, true, false, not, cond, ◌||◌, ◌&&◌, List, [], ◌∷◌, length, refl, sym, ap, ap₂, ◌∙◌, arith, inl, inr, filter, eq-eqb, ne_eqb, suc, list_all, both_ways, and_parts, and_from, or_cases, or_left, or_right, false_from_ne_true, not-true, mem-within, member-of_set, all_in_true, true_all_in, set-part, Within, IsRisingIn, all_in, is_apart, is_subset, last_of, mem}
 use Rattle.graph_core.proofs.Common.{in_union, place_in, merged_blocks, Has, block_has, has_block, mem_last, AreBlocks, IsPartition, block, insert_block, merged, place, IsUnion}
 use Rattle.contraction.specs.Partition.{IsUnionAt, KeepsPartition, PartitionValue}
 

@@ -1,6 +1,6 @@
 -- What the value of a quotient says: as many lists of remembered edges as edges, each that of its
 -- edge, and the union of the blocks at the places of a set.
-use Rattle.counting.proofs.Common.{◌≡◌, ℕ, ◌≤◌, ◌&&◌, List, length, sym, ap, ◌∙◌, arith, subst, and_parts, get_or-map, list-from_test, set-narrower, some_true, Within, IsRisingIn, item, mem, some}
+use Rattle.graph_core.proofs.from_counting.Common.{◌≡◌, ℕ, ◌≤◌, ◌&&◌, List, length, sym, ap, ◌∙◌, arith, subst, and_parts, get_or-map, list-from_test, set-narrower, some_true, Within, IsRisingIn, item, mem, some}
 use Rattle.graph_core.proofs.Common.{Graph, size, block, remembered, union_of_blocks}
 use Rattle.contraction.proofs.BlockLists.{length-partition}
 use Rattle.contraction.specs.Contracted.{ContractedValue, KeepsContraction, contraction}

@@ -2,7 +2,7 @@
 -- edges with two given different ends are those of one row that pass a test.
 use Rattle.std.proofs.Common.{◌≡◌, ◌≢◌, ℕ, zero, suc, ◌+◌, ◌-◌, ◌<◌, ◌==◌, ◌&&◌, not, min, Bool, true, false, cond, List, [], ◌∷◌, ◌++◌, append-nil, filter, get_or, length, set, take, refl, sym, subst, ap, ap₂, ◌∙◌, arith, eqb-true, inl, inr, All, get_or-set_same, get_or-set_other, length-set}
 use Rattle.std.specs.Global.{Vec}
-use Rattle.counting.proofs.Common.{map-set, take_more, filter-append, All-head, All-tail, cases_Bool, cases_eq, get_or-map, length-map, row_of, rising_list, rising_list-rises, Set, Within}
+use Rattle.graph_core.proofs.from_counting.Common.{map-set, take_more, filter-append, All-head, All-tail, cases_Bool, cases_eq, get_or-map, length-map, row_of, rising_list, rising_list-rises, Set, Within}
 use Rattle.graph_core.proofs.Common.{Graph, are_ends, has_ends, size, graph_of, has_ends-graph_of, pair-graph_of, size-graph_of}
 use Rattle.graph_core.specs.declared.ends.Ends.{Ends}
 use Rattle.contraction.specs.EdgeRows.{AreEdgeRows, lists_of, starts_at}

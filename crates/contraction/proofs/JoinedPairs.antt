@@ -1,7 +1,7 @@
 -- The pairs of vertices that edges join, in lexicographic order: the rows of later neighbours
 -- give them, none comes twice, and there are no more than edges. A pair goes to its least edge,
 -- and no other pair goes there.
-use Rattle.counting.proofs.Common.{◌≡◌, ℕ, ◌+◌, ◌-◌, ◌*◌, ◌≤◌, ◌<◌, ◌==◌, Bool, true, false, cond, ◌&&◌, List, [], ◌∷◌, ◌++◌, length, refl, sym, ap, ap₂, ◌∙◌, arith, ◌⊎◌, inl, inr, filter, map, flat_map, nat_lt, get_or, eq-eqb, suc, zero, filter-append, list_any, both_ways, cases_lt, cases_order, and_parts, or_left, or_right, false_from_ne_true, nat_tests, map-append, Rises, mem_low, rises-from_set, rising_only, HasPair, at_pair, pair_filter, rows_only, map_pair, mem-outside, mem-rising_list, rising_list-mem, rising_list-rises, same_rising_list, set-wider, least_of, least_of_is, some_true, total_le, Within, bit, total, IsRisingIn, item, mem, pair_with, rising_list, rising_pairs, Set, everything, some}
+use Rattle.graph_core.proofs.from_counting.Common.{◌≡◌, ℕ, ◌+◌, ◌-◌, ◌*◌, ◌≤◌, ◌<◌, ◌==◌, Bool, true, false, cond, ◌&&◌, List, [], ◌∷◌, ◌++◌, length, refl, sym, ap, ap₂, ◌∙◌, arith, ◌⊎◌, inl, inr, filter, map, flat_map, nat_lt, get_or, eq-eqb, suc, zero, filter-append, list_any, both_ways, cases_lt, cases_order, and_parts, or_left, or_right, false_from_ne_true, nat_tests, map-append, Rises, mem_low, rises-from_set, rising_only, HasPair, at_pair, pair_filter, rows_only, map_pair, mem-outside, mem-rising_list, rising_list-mem, rising_list-rises, same_rising_list, set-wider, least_of, least_of_is, some_true, total_le, Within, bit, total, IsRisingIn, item, mem, pair_with, rising_list, rising_pairs, Set, everything, some}
 use Rattle.graph_core.proofs.Common.{image, total_image, some-graph_of, has_ends-cases, Graph, IsGraph, first_end, has_ends, second_end, size, IsWithinLimits, are_ends, graph_of}
 use Rattle.graph_core.specs.declared.ends.Ends.{Ends}
 use Rattle.contraction.proofs.PairLists.{Once, each-once}

@@ -1,6 +1,6 @@
 -- Each edge of the quotient has a least remembered edge, and the places that are marked row by row
 -- are the lifted matching. A list of rows is read row by row; a row is found by its edge.
-use Rattle.counting.proofs.Common.{◌≡◌, ℕ, ◌+◌, ◌<◌, Bool, true, false, ◌&&◌, ◌||◌, ◌==◌, List, [], ◌∷◌, length, map, take, get_or, refl, ap, ◌∙◌, inl, inr, eq-eqb, eqb-true, All, Some, slice_get, slice_index, arith, slice_get_within, list_any, and_from, and_parts, both_ways, or_cases, or_right, or_left, take_more, All-head, All-tail, list_any-append, get_or_from_slice_get, rising_list-congr, some_congr, some_true, true_some, or_false, same_tests, Within, item, mem, rising_list, Set, some}
+use Rattle.graph_core.proofs.from_counting.Common.{◌≡◌, ℕ, ◌+◌, ◌<◌, Bool, true, false, ◌&&◌, ◌||◌, ◌==◌, List, [], ◌∷◌, length, map, take, get_or, refl, ap, ◌∙◌, inl, inr, eq-eqb, eqb-true, All, Some, slice_get, slice_index, arith, slice_get_within, list_any, and_from, and_parts, both_ways, or_cases, or_right, or_left, take_more, All-head, All-tail, list_any-append, get_or_from_slice_get, rising_list-congr, some_congr, some_true, true_some, or_false, same_tests, Within, item, mem, rising_list, Set, some}
 use Rattle.graph_core.proofs.Common.{Graph, size, lifted, quotient, remembered, AreBlocks}
 use Rattle.match_core.proofs.MatchingEdges.{edge_of}
 use Rattle.match_core.specs.declared.matching.MatchRow.{MatchRow}

@@ -1,7 +1,7 @@
 -- A perfect matching of the quotient is lifted to a perfect matching at the partition, each edge
 -- to its least remembered edge. That edge joins the two blocks, so the matching is carried over
 -- along the identity of places.
-use Rattle.counting.proofs.Common.{◌≡◌, ℕ, ◌<◌, length, true, false, not, ◌&&◌, ◌==◌, List, [], ◌∷◌, refl, sym, ◌∙◌, arith, subst, eq-eqb, slice_index, both_ways, and_parts, or_left, rising_holds, rising_only, some-member, mem-rising_list, some_true, Within, mem, Set, none, some}
+use Rattle.graph_core.proofs.from_counting.Common.{◌≡◌, ℕ, ◌<◌, length, true, false, not, ◌&&◌, ◌==◌, List, [], ◌∷◌, refl, sym, ◌∙◌, arith, subst, eq-eqb, slice_index, both_ways, and_parts, or_left, rising_holds, rising_only, some-member, mem-rising_list, some_true, Within, mem, Set, none, some}
 use Rattle.graph_core.proofs.Common.{contracted-order, contracted-size, carried_set, image, perfect_carried, degree_congr, quotient-order, quotient_edge, quotient_graph, has_ends-cases, Graph, IsGraph, first_end, has_ends, second_end, size, IsPerfect, AreBlocks, IsPerfectAt, contracted, lifted, quotient, remembered}
 use Rattle.graph_core.proofs.Edits.{HasEnds}
 

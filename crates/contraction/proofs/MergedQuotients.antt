@@ -1,6 +1,6 @@
 -- The law of contraction for quotients, for both shores of a tight cut. The quotient is matching
 -- covered if and only if the contraction is, and the complement of a tight shore is a tight shore.
-use Rattle.counting.proofs.Common.{ℕ, List, mem-within, member-of_set, IsRisingIn, mem, Set}
+use Rattle.graph_core.proofs.from_counting.Common.{ℕ, List, mem-within, member-of_set, IsRisingIn, mem, Set}
 use Rattle.graph_core.proofs.Common.{covered_merged, merge_of, tight_down_merged, tight_up_merged, shore-some, IsCovered, Graph, IsGraph, AreBlocks, merged, quotient, IsTightAt, IsUnion}
 use Rattle.contraction.proofs.QuotientLaws.{covered_down, covered_up}
 

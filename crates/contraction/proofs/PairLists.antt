@@ -1,7 +1,7 @@
 -- Lists of pairs in which no pair occurs twice: rows of increasing lists, one after another, and
 -- what a filter keeps of them. A pair that is in the list has one place, so a map keyed by the
 -- pairs gets a new key at each step.
-use Rattle.counting.proofs.Common.{◌≡◌, ℕ, ◌+◌, ◌<◌, Bool, true, ◌==◌, if◌then◌else◌, List, [], ◌∷◌, ◌++◌, length, refl, sym, ap, ap₂, ◌∙◌, arith, inl, inr, map, get_or, take, subst, suc, zero, ◌&&◌, eqb-true, map_push, take-map, false_from_ne_true, and_parts, get_or-map, length-map, take_more, HasPair, at_pair, pair_at}
+use Rattle.graph_core.proofs.from_counting.Common.{◌≡◌, ℕ, ◌+◌, ◌<◌, Bool, true, ◌==◌, if◌then◌else◌, List, [], ◌∷◌, ◌++◌, length, refl, sym, ap, ap₂, ◌∙◌, arith, inl, inr, map, get_or, take, subst, suc, zero, ◌&&◌, eqb-true, map_push, take-map, false_from_ne_true, and_parts, get_or-map, length-map, take_more, HasPair, at_pair, pair_at}
 use Rattle.indexmap.specs.IndexMap.{insert_entry}
 use Rattle.graph_core.proofs.Common.{pair_of}
 use Rattle.graph_core.specs.declared.ends.Ends.{Ends}

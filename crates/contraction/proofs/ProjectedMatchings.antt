@@ -1,7 +1,7 @@
 -- A perfect matching at a partition is projected to a perfect matching of the quotient, each edge
 -- to the edge between its two blocks, of which there is one; the cut of a set of blocks has as
 -- many edges of it before and after, down and up.
-use Rattle.counting.proofs.Common.{◌≡◌, ◌≢◌, ℕ, ◌<◌, true, ◌==◌, ◌&&◌, List, refl, sym, ap, ◌∙◌, arith, ◌⊎◌, subst, eq-eqb, eqb-true, slice_index, same_tests, and_from, and_parts, cases_order, count_congr, rising_holds, rising_only, mem-rising_list, least_of, least_of_is, some_true, true_some, Within, mem, Set, none, some}
+use Rattle.graph_core.proofs.from_counting.Common.{◌≡◌, ◌≢◌, ℕ, ◌<◌, true, ◌==◌, ◌&&◌, List, refl, sym, ap, ◌∙◌, arith, ◌⊎◌, subst, eq-eqb, eqb-true, slice_index, same_tests, and_from, and_parts, cases_order, count_congr, rising_holds, rising_only, mem-rising_list, least_of, least_of_is, some_true, true_some, Within, mem, Set, none, some}
 use Rattle.graph_core.proofs.Common.{has_ends-from, contracted-graph, contracted-order, contracted-size, carried_set, cut_carried, image, no_loop, perfect_carried, quotient-order, quotient_edge, quotient_graph, has_ends-cases, has_ends-own, Graph, HasEnds, IsGraph, edges_in_cut, first_end, has_ends, in_cut, second_end, size, IsPerfect, AreBlocks, IsPerfectAt, contracted, lifted, projected, quotient, remembered}
 use Rattle.contraction.proofs.JoinedPairs.{joined-once}
 use Rattle.contraction.proofs.LiftedMatchings.{least-remembered, perfect-congr}

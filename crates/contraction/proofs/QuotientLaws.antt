@@ -1,6 +1,6 @@
 -- The quotient and the contraction have the same adjacent pairs, so both are matching covered or
 -- neither is, and a union of blocks is tight in the one if and only if it is in the other.
-use Rattle.counting.proofs.Common.{◌≡◌, ℕ, ◌<◌, ◌≢◌, true, not, ◌==◌, List, length, sym, ap, ◌∙◌, arith, inl, inr, ne_eqb, and_parts, and_from, cases_order, some_true, true_some, same_tests, Within, Set, some}
+use Rattle.graph_core.proofs.from_counting.Common.{◌≡◌, ℕ, ◌<◌, ◌≢◌, true, not, ◌==◌, List, length, sym, ap, ◌∙◌, arith, inl, inr, ne_eqb, and_parts, and_from, cases_order, some_true, true_some, same_tests, Within, Set, some}
 use Rattle.graph_core.proofs.Common.{Alike, covered_over, has_ends-from, contracted-graph, contracted-order, contracted-size, edge_of_pair, quotient-order, quotient_edge, quotient_graph, has_ends-back, IsCovered, Graph, IsGraph, first_end, has_ends, second_end, size, AreBlocks, contracted, quotient, IsTightAt, IsUnion, blocks_in, IsTight}
 use Rattle.graph_core.proofs.QuotientTight.{tight_down, tight_up}
 

@@ -1,7 +1,7 @@
 -- The edges of the quotient as the code finds them: each edge of the graph goes to the places of
 -- its ends, each place has a row of later neighbours, and the rows in order give the adjacent
 -- pairs in lexicographic order, each once.
-use Rattle.counting.proofs.Common.{◌≡◌, ◌≢◌, ℕ, ◌+◌, ◌<◌, cond, List, [], ◌∷◌, ◌++◌, length, sym, ap, ◌∙◌, arith, map, get_or, map-map, rising_list}
+use Rattle.graph_core.proofs.from_counting.Common.{◌≡◌, ◌≢◌, ℕ, ◌+◌, ◌<◌, cond, List, [], ◌∷◌, ◌++◌, length, sym, ap, ◌∙◌, arith, map, get_or, map-map, rising_list}
 use Rattle.graph_core.proofs.Common.{has_ends-graph_of, pair-graph_of, size-graph_of, HasNoLoop, has_ends, contracted, place, are_ends, graph_of, pair_of}
 use Rattle.graph_core.specs.declared.ends.Ends.{Ends}
 

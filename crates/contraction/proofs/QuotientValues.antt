@@ -1,7 +1,7 @@
 -- The value that the code makes is the quotient with its remembered edges: the joined pairs of
 -- the contracted graph are the edges of the quotient, since a pair of places a < b has two
 -- different blocks.
-use Rattle.counting.proofs.Common.{◌≡◌, ℕ, ◌≤◌, ◌==◌, Bool, true, false, not, cond, ◌&&◌, List, [], ◌∷◌, length, refl, sym, ap, ap₂, ◌∙◌, arith, inl, inr, filter, map, nat_lt, subst, nat_tests, HasPair, rows_only, rising_list, rising_pairs, everything, some}
+use Rattle.graph_core.proofs.from_counting.Common.{◌≡◌, ℕ, ◌≤◌, ◌==◌, Bool, true, false, not, cond, ◌&&◌, List, [], ◌∷◌, length, refl, sym, ap, ap₂, ◌∙◌, arith, inl, inr, filter, map, nat_lt, subst, nat_tests, HasPair, rows_only, rising_list, rising_pairs, everything, some}
 use Rattle.graph_core.proofs.Common.{contracted-graph, contracted-size, size-graph_of, Graph, IsGraph, has_ends, size, AreBlocks, contracted, blocks_adjacent, quotient, IsWithinLimits, graph_of, pair_of}
 use Rattle.graph_core.specs.declared.ends.Ends.{Ends}
 use Rattle.contraction.proofs.BlockLists.{length-partition}

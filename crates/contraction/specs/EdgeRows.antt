@@ -2,7 +2,7 @@
 -- Stated by: contraction.
 use Rattle.std.specs.Prelude.{◌≡◌, ◌≤◌, ◌==◌, ◌&&◌, ℕ, Bool, not, min, List, map}
 use Rattle.std.specs.Global.{Vec}
-use Rattle.counting.specs.Common.{rising_list, row_of}
+use Rattle.graph_core.specs.from_counting.Common.{rising_list, row_of}
 use Rattle.graph_core.specs.Common.{Graph, first_end, second_end, size}
 
 -- edge e is not a loop, and a is the lesser of its ends

@@ -1,7 +1,7 @@
 -- The least remembered edges, by which matchings of the quotient are lifted.
 -- Stated by: contraction.
 use Rattle.std.specs.Prelude.{ℕ, slice_index}
-use Rattle.counting.specs.Common.{item}
+use Rattle.graph_core.specs.from_counting.Common.{item}
 use Rattle.contraction.specs.Contracted.{ContractedValue}
 
 -- the least remembered edge of edge k of the quotient

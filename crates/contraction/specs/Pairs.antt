@@ -1,7 +1,7 @@
 -- Lists of pairs of vertices, the pairs that edges join, and the places of vertices in blocks.
 -- Stated by: contraction.
 use Rattle.std.specs.Prelude.{◌≡◌, ◌<◌, ◌-◌, ℕ, List, length, filter, slice_index, slice_index_or}
-use Rattle.counting.specs.Common.{Within, some, rising_pairs}
+use Rattle.graph_core.specs.from_counting.Common.{Within, some, rising_pairs}
 use Rattle.graph_core.specs.Common.{Graph, has_ends, place, size}
 
 -- no pair occurs twice

@@ -2,7 +2,7 @@
 -- blocks among the sets.
 -- Stated by: contraction, tree_core. Used by: tree_check, uncross, report_text, bench_reports.
 use Rattle.std.specs.Prelude.{ℕ, ◌≤◌, List}
-use Rattle.counting.specs.Common.{mem, IsRisingIn}
+use Rattle.graph_core.specs.from_counting.Common.{mem, IsRisingIn}
 use Rattle.graph_core.specs.Common.{IsPartition, IsUnion}
 
 -- the number of vertices, and the blocks in increasing order of their names

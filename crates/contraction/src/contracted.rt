@@ -1,6 +1,6 @@
 //! The quotient of a graph at a partition, with its remembered edges.
 ghost use Rattle.std.specs.Prelude.{◌≡◌, ◌↔◌, slice_index_or, ◌<◌, ◌≤◌, ◌+◌, ◌&&◌, ℕ, List, [], length, map, IfOk, IsTrue};
-ghost use Rattle.counting.specs.Common.{Within, mem, item, rising_list, some};
+ghost use Rattle.graph_core.specs.from_counting.Common.{Within, mem, item, rising_list, some};
 ghost use Rattle.graph_core.specs.Common.{Graph, HasNoLoop, has_ends, size, block, contracted, remembered, union_of_blocks, graph_of, pair_of};
 ghost use Rattle.indexmap.specs.IndexMap.{keys};
 ghost use Rattle.contraction.specs.Contracted.{KeepsContraction, contraction};
@@ -12,11 +12,11 @@ use crate::Partition;
 use crate::edge_rows::{EdgeRows, edges_with};
 use crate::partition::union_at;
 use crate::place_pairs::{graph_with, joined_places};
+use graph_core::vset_core::{MOST_VERTICES, VSet};
 use graph_core::{Ends, MOST_EDGES, MultiGraph};
 use indexmap::IndexMap;
 use std::alloc::{AllocError as Memory, Global};
 use std::marker::Model;
-use vset_core::{MOST_VERTICES, VSet};
 
 /// The quotient of a graph at a partition: the graph with one vertex for each block, by place, and
 /// one edge for each pair of adjacent blocks, in lexicographic order of their places. Each of its

@@ -1,13 +1,13 @@
 //! The edges that join two blocks, listed by the earlier of the two.
 ghost use Rattle.std.specs.Prelude.{◌≡◌, ◌≢◌, ℕ, ◌+◌, ◌<◌, ◌≤◌, ◌++◌, ◌∷◌, [], length, IfOk, OnOk, slice_set};
-ghost use Rattle.counting.specs.Common.{rising_list, row_of};
+ghost use Rattle.graph_core.specs.from_counting.Common.{rising_list, row_of};
 ghost use Rattle.graph_core.specs.Common.{IsGraph, graph_of, has_ends};
 ghost use Rattle.contraction.specs.EdgeRows.{AreEdgeRows};
 
+use graph_core::vset_core::MOST_VERTICES;
 use graph_core::{Ends, MOST_EDGES};
 use std::alloc::{AllocError as Memory, Global};
 use std::marker::Model;
-use vset_core::MOST_VERTICES;
 
 /// For each place the edges that join the block there to a block at a later place, in increasing
 /// order. Contracts see these lists, with an empty one for the place 0.

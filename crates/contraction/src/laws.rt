@@ -1,7 +1,7 @@
 //! The laws that relate a quotient to the contraction at the partition. Each law is the contract of
 //! a function that does nothing.
 ghost use Rattle.std.specs.Prelude.{◌≡◌, ℕ, List, true, ◌↔◌};
-ghost use Rattle.counting.specs.Common.{Set, none, IsRisingIn, mem};
+ghost use Rattle.graph_core.specs.from_counting.Common.{Set, none, IsRisingIn, mem};
 ghost use Rattle.graph_core.specs.Common.{Graph, IsGraph, edges_in_cut, IsPerfect, IsCovered, AreBlocks, IsPerfectAt, complement_of, contracted, merged, lifted, projected, quotient, IsTightAt, IsUnion, blocks_in, IsTight};
 
 /// The quotient is matching covered if and only if the contraction is, whose edges are those of the

@@ -1,10 +1,10 @@
 //! Matchings of the quotient lifted to the graph.
 ghost use Rattle.std.specs.Prelude.{◌≡◌, ℕ, ◌+◌, ◌≤◌, ◌==◌, ◌||◌, ◌<◌, true, Bool, List, length, All, IfOk};
 ghost use Rattle.std.specs.List.{list_any};
-ghost use Rattle.counting.specs.Common.{Within, none, put, mem, rising_list};
+ghost use Rattle.graph_core.specs.from_counting.Common.{Within, none, put, mem, rising_list};
 ghost use Rattle.graph_core.specs.Common.{Graph, IsGraph, size, IsPerfect, IsPerfectAt, lifted, quotient};
 ghost use Rattle.match_core.specs.Common.{IsOf, edges_of};
-ghost use Rattle.match_search.specs.Common.{marks};
+ghost use Rattle.match_core.specs.from_match_search.Common.{marks};
 ghost use Rattle.contraction.specs.Contracted.{contraction};
 ghost use Rattle.contraction.specs.LeastEdges.{least_at};
 

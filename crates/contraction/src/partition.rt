@@ -2,14 +2,14 @@
 ghost use Rattle.std.specs.Prelude.{◌≡◌, ℕ, ◌&&◌, ◌<◌, ◌≤◌, ◌+◌, ◌↔◌, ◌==◌, ◌||◌, not, length, slice_get, Some, IfOk, IsTrue, filter, insert, count_by, nat_lt, position};
 ghost use Rattle.itertools.specs.Consumer.{find_at};
 ghost use Rattle.std.specs.List.{list_all, position_or_len};
-ghost use Rattle.counting.specs.Common.{Within, mem, some, last_of, is_subset, is_apart};
+ghost use Rattle.graph_core.specs.from_counting.Common.{Within, mem, some, last_of, is_subset, is_apart};
 ghost use Rattle.graph_core.specs.Common.{Graph, insert_block, merged, place, singles, block, block_count, union_of_blocks};
 ghost use Rattle.contraction.specs.Partition.{IsUnionAt, KeepsPartition};
 
+use graph_core::vset_core::{MOST_VERTICES, VSet};
 use itertools::Itertools;
 use std::alloc::{AllocError as Memory, Global};
 use std::marker::Model;
-use vset_core::{MOST_VERTICES, VSet};
 
 /// A partition of the vertices 1 to n into blocks. The name of a block is its highest-numbered
 /// vertex, and blocks are in increasing order of their names. Contracts see it as n and the list of

@@ -1,14 +1,14 @@
 //! The pairs of places of blocks that edges join, and the graph with given edges.
 ghost use Rattle.std.specs.Prelude.{◌≡◌, ◌<◌, ◌≤◌, ◌+◌, ◌&&◌, ◌||◌, ◌++◌, ℕ, List, [], All, length, map, nat_lt, flat_map, IfOk, OnOk};
 ghost use Rattle.std.specs.List.{list_any};
-ghost use Rattle.counting.specs.Common.{Within, mem, item, pair_with, rising_list, IsRisingIn, everything, some};
+ghost use Rattle.graph_core.specs.from_counting.Common.{Within, mem, item, pair_with, rising_list, IsRisingIn, everything, some};
 ghost use Rattle.graph_core.specs.Common.{IsGraph, contracted, graph_of, pair_of, are_ends, place, IsWithinLimits};
 ghost use Rattle.contraction.specs.Pairs.{ArePlaces, joined_pairs};
 
 use crate::Partition;
+use graph_core::vset_core::{MOST_VERTICES, VSet};
 use graph_core::{Ends, MultiGraph};
 use std::alloc::{AllocError as Memory, Global};
-use vset_core::{MOST_VERTICES, VSet};
 
 // For each vertex the place of the block that contains it.
 fn places(alloc: Global, p: &Partition) -> Result<Vec<u32>, Memory>

@@ -1,6 +1,6 @@
 //! The edges of a graph as they join the blocks of a partition.
 ghost use Rattle.std.specs.Prelude.{◌≡◌, ◌≢◌, IfOk};
-ghost use Rattle.counting.specs.Common.{rising_list};
+ghost use Rattle.graph_core.specs.from_counting.Common.{rising_list};
 ghost use Rattle.graph_core.specs.Common.{contracted, has_ends, size};
 
 use crate::Partition;

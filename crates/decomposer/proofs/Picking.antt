@@ -1,13 +1,13 @@
 -- Steps of a decomposition. A candidate at a partition is a cut there; where an order takes the
 -- first candidate, its shore is picked; and a cut with two trees is the tree that the order
 -- picks, and a derivation, where both trees are.
-use Rattle.counting.proofs.Common.{◌≡◌, ℕ, ◌+◌, ◌<◌, List, length, map, ◌++◌, append_assoc, All, refl, ap, ap₂, sym, ◌∙◌, arith, subst, slice_get, Option, Some, true, false, ◌==◌, slice_get_within, both_ways, length-map, map-append, get_or_from_slice_get}
+use Rattle.graph_core.proofs.from_counting.Common.{◌≡◌, ℕ, ◌+◌, ◌<◌, List, length, map, ◌++◌, append_assoc, All, refl, ap, ap₂, sym, ◌∙◌, arith, subst, slice_get, Option, Some, true, false, ◌==◌, slice_get_within, both_ways, length-map, map-append, get_or_from_slice_get}
 use Rattle.graph_core.proofs.Common.{IsCovered, Graph, IsGraph, singles}
 use Rattle.tight_cuts.proofs.FirstCandidates.{first-one, first-place}
 use Rattle.tight_cuts.proofs.PartitionCandidates.{found-root, root-candidates}
 use Rattle.tight_cuts.specs.Common.{Candidate, candidates, first_of, first_shore, IsCandidateAt, candidates_at, candidate_of}
 use Rattle.tight_cuts.specs.declared.candidate.Candidate.{Candidate as StoredCandidate}
-use Rattle.tree_core.proofs.Common.{IsCutAt, PlaceValue, Shape, cut, kept_at, leaves_at, merged_at, place_of}
+use Rattle.tight_cuts.proofs.from_tree_core.Common.{IsCutAt, PlaceValue, Shape, cut, kept_at, leaves_at, merged_at, place_of}
 use Rattle.decomposer.specs.Common.{NamedPicks, Finds, IsPickedShore, PicksShore, leaf_places}
 use Rattle.decomposer.specs.declared.orders.NamedOrder.TheVariants.{First}
 

@@ -1,15 +1,15 @@
 //! The trees of decompositions, without their leaves.
 ghost use Rattle.std.specs.Prelude.{◌≡◌, IfOk, Err};
 ghost use Rattle.graph_core.specs.Common.{IsCovered, IsReason, reason_of};
-ghost use Rattle.tree_core.specs.Common.{IsDerivation, shape_of};
+ghost use Rattle.tight_cuts.specs.from_tree_core.Common.{IsDerivation, shape_of};
 ghost use Rattle.decomposer.specs.Common.{IsPicked};
 
 use crate::decomposition::decompose_places;
 use crate::orders::Order;
 use graph_core::{MultiGraph, Reason};
-use graph_facts::Covered;
 use std::alloc::{AllocError, Global};
-use tree_core::Tree;
+use tight_cuts::graph_facts::Covered;
+use tight_cuts::tree_core::Tree;
 
 /// Why there is no decomposition.
 #[derive(Clone, Copy, PartialEq, Eq)]

@@ -5,7 +5,7 @@ use Rattle.counting.proofs.Common.{◌≡◌, ℕ, ◌+◌, ◌≤◌, ◌⊎◌
 use Rattle.barrier_kit.proofs.Common.{perfect_or_not, odd_component_count-congr}
 use Rattle.graph_core.proofs.Common.{allowed_or_not, joined_back, joined_on, joined_or_not, IsBergeSet, IsConnected, IsCovered, IsReason, Reason, Small, Parted, Unmatched, Unallowed, Graph, IsGraph, size, Allowed, HasPerfect, missed_count, Joined}
 use Rattle.definition_laws.specs.Words.{without_berge}
-use Rattle.match_core.proofs.TutteBerge.{tutte_berge}
+use Rattle.barrier_kit.proofs.from_match_core.TutteBerge.{tutte_berge}
 
 -- where vertex 1 is joined to each vertex, each is joined to each
 connected_from_one : (g : Graph) → ((v : ℕ) → Within g.order v → Joined g none 1 v) → IsConnected g

@@ -1,7 +1,7 @@
 -- What does a stage with an ear match? The odd edges of an ear meet each of its vertices once,
 -- and the even ones each but its two ends; so a perfect matching of the stage with the even edges
 -- is one of the new stage, and only the odd edges are left to ask.
-use Rattle.counting.proofs.Common.{◌≡◌, ℕ, ◌+◌, ◌≤◌, Bool, true, false, ◌==◌, refl, sym, arith, ◌||◌, eq-eqb, ne_eqb, ◌⊎◌, inl, inr, subst, ◌++◌, List, cases_eq, cases_Bool, both_ways, true≢false, false_from_ne_true, or_left, or_right, or_parts, or_cases, or_from, times_mem, bit, Within, mem, times, Set, none, pair_set, union}
+use Rattle.graph_core.proofs.from_counting.Common.{◌≡◌, ℕ, ◌+◌, ◌≤◌, Bool, true, false, ◌==◌, refl, sym, arith, ◌||◌, eq-eqb, ne_eqb, ◌⊎◌, inl, inr, subst, ◌++◌, List, cases_eq, cases_Bool, both_ways, true≢false, false_from_ne_true, or_left, or_right, or_parts, or_cases, or_from, times_mem, bit, Within, mem, times, Set, none, pair_set, union}
 use Rattle.ear_core.specs.Common.{trail, last_vertex, IsEar, odds, evens, IsNearlyStage, is_met, adjacent_by, IsPerfectOf, IsPerfectOff, with_edges}
 use Rattle.graph_core.proofs.Common.{ends_of, edge_at, ends_le_degree, Walk-join, Walk-back, Graph, size, first_end, second_end, IsGraph, degree, Walk}
 use Rattle.ear_core.proofs.TraceEdges.{odds_ends, evens_ends, mem_times, times_ends, mem_degree, degree_or, degree_le, met-some, some-met, unmet, edges-within, trail_has, mem_odds, mem_evens, mem_parts}

@@ -1,6 +1,6 @@
 -- Ears of bipartite graphs. An ear has its ends on opposite sides, since its length is odd; so it
 -- serves, and single ears do.
-use Rattle.counting.proofs.Common.{◌≡◌, ℕ, true, refl, sym, ap, ◌∙◌, arith, not, inl, [], ◌∷◌, List, length, true≢false, not_not, Within, is_odd, Set, pair_set}
+use Rattle.graph_core.proofs.from_counting.Common.{◌≡◌, ℕ, true, refl, sym, ap, ◌∙◌, arith, not, inl, [], ◌∷◌, List, length, true≢false, not_not, Within, is_odd, Set, pair_set}
 use Rattle.graph_core.proofs.Common.{Graph, IsBipartite, IsGraph, in_cut, size}
 use Rattle.ear_core.proofs.OppositeEnds.{opposite-serve}
 use Rattle.ear_core.proofs.TraceEdges.{two_less_odd}

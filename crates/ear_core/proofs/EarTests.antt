@@ -1,7 +1,7 @@
 -- The tests of an ear say that it is an ear, and those of the second ear of a step that the two
 -- are a pair. A vertex is counted along the ear: the first, the inner ones and the last.
 use Rattle.std.proofs.Common.{◌≡◌, ℕ, ◌+◌, ◌≤◌, Bool, true, false, ◌==◌, refl, sym, ap, ◌∙◌, arith, ◌&&◌, ◌||◌, not, eq-eqb, ne_eqb, eqb-true, inl, inr, nat_le, leb-true, le-leb, subst, [], ◌∷◌, List, length, ◌↔◌}
-use Rattle.counting.proofs.Common.{true_from_ne_false, cases_eq, and_parts, and_from, both_ways, true≢false, false_from_ne_true, not-true, or_left, or_right, or_parts, or_cases, or_from, times_mem, bit, is_odd, mem, times, Set}
+use Rattle.graph_core.proofs.from_counting.Common.{true_from_ne_false, cases_eq, and_parts, and_from, both_ways, true≢false, false_from_ne_true, not-true, or_left, or_right, or_parts, or_cases, or_from, times_mem, bit, is_odd, mem, times, Set}
 use Rattle.ear_core.proofs.TraceEdges.{mem_times}
 use Rattle.ear_core.specs.Common.{follows, front, inner_vertices, repeats, no_member, is_empty, Passes, other_end, Follow, trail, last_vertex, IsEar, IsEarPair, is_met}
 use Rattle.graph_core.proofs.Common.{Graph, size, first_end, second_end}

@@ -1,9 +1,9 @@
 -- The edges of a stage in a graph of their own. The degree by rank is the degree in g, so a
 -- perfect matching of the listed edges is one of the graph of the stage; and an edge lies in one
 -- if its two ends may be left out.
-use Rattle.counting.proofs.Common.{◌≡◌, ℕ, suc, zero, ◌+◌, ◌*◌, ◌≢◌, Bool, true, false, cond, List, ◌==◌, refl, sym, ap, ap₂, ◌∙◌, arith, ◌&&◌, ◌||◌, not, subst, eq-eqb, eqb-true, inl, inr, [], ◌∷◌, ◌++◌, length, ◌↔◌, true_from_ne_false, same_tests, or_right, cases_Bool, and_parts, and_from, both_ways, false_from_ne_true, not-true, or_left, or_cases, or_parts, or_from, rank_once, some_true, true_some, bit, count, mem, Within, Set, union, put, pair_set, complement, some}
+use Rattle.graph_core.proofs.from_counting.Common.{◌≡◌, ℕ, suc, zero, ◌+◌, ◌*◌, ◌≢◌, Bool, true, false, cond, List, ◌==◌, refl, sym, ap, ap₂, ◌∙◌, arith, ◌&&◌, ◌||◌, not, subst, eq-eqb, eqb-true, inl, inr, [], ◌∷◌, ◌++◌, length, ◌↔◌, true_from_ne_false, same_tests, or_right, cases_Bool, and_parts, and_from, both_ways, false_from_ne_true, not-true, or_left, or_cases, or_parts, or_from, rank_once, some_true, true_some, bit, count, mem, Within, Set, union, put, pair_set, complement, some}
 use Rattle.ear_core.proofs.TraceEdges.{some-met, unmet, degree_le}
-use Rattle.barrier_kit.proofs.Common.{perfect_congr}
+use Rattle.two_ears.proofs.from_barrier_kit.Common.{perfect_congr}
 use Rattle.ear_core.specs.Common.{by_rank, listed, is_met, IsAsked, IsPerfectOff, IsPerfectOf, Serves}
 use Rattle.ear_core.specs.declared.asking.Asked.{Asked}
 use Rattle.two_ears.proofs.AddedEdges.{size-added, degree-added}

@@ -1,6 +1,6 @@
 -- The edge at which an ear shows that it fails a test is one of its edges, and there is one unless
 -- the ear has no edges, or fails only because their number is even.
-use Rattle.counting.proofs.Common.{◌≡◌, ◌⊎◌, ℕ, zero, suc, ◌-◌, ◌<◌, Bool, true, false, ◌==◌, ◌&&◌, ◌||◌, not, nat_le, ◌∙◌, sym, ap, arith, [], ◌∷◌, List, length, Option, Some, None, refl, inl, inr, All, if◌then◌else◌, eq-eqb, leb-true, option_and_then, is_none, slice_get, find, both_ways, or_left, or_right, mem, none, singleton, union, Set, Within}
+use Rattle.graph_core.proofs.from_counting.Common.{◌≡◌, ◌⊎◌, ℕ, zero, suc, ◌-◌, ◌<◌, Bool, true, false, ◌==◌, ◌&&◌, ◌||◌, not, nat_le, ◌∙◌, sym, ap, arith, [], ◌∷◌, List, length, Option, Some, None, refl, inl, inr, All, if◌then◌else◌, eq-eqb, leb-true, option_and_then, is_none, slice_get, find, both_ways, or_left, or_right, mem, none, singleton, union, Set, Within}
 use Rattle.graph_core.proofs.Common.{Graph, size}
 use Rattle.ear_core.specs.Common.{PlainWhy, not_path, even_length, bad_ends, inner_on_stage, edge_used, stage_not_covered, ends_early, astray, ear_fault, edge_of_fault, entering, fault_edge, follows, has_free_inner, has_good_ends, has_new_edges, has_odd_length, inner_vertices, is_empty, is_met, is_path, no_member, other_end, wrong_end}
 use Rattle.ear_core.proofs.FaultPlaces.{none-found}

@@ -1,6 +1,6 @@
 -- Where the fault of a step shows, as the code finds it.
 -- Idea: the code goes on item by item, and of two ears the first that fails gives the place.
-use Rattle.counting.proofs.Common.{◌≡◌, ℕ, ◌-◌, Bool, true, false, ◌==◌, ◌||◌, sym, ap, ◌∙◌, arith, [], ◌∷◌, List, length, Option, Some, None, refl, eqb-true, ◌⊎◌, find, option_and_then, is_some, is_none, fun_ext, Set, mem}
+use Rattle.graph_core.proofs.from_counting.Common.{◌≡◌, ℕ, ◌-◌, Bool, true, false, ◌==◌, ◌||◌, sym, ap, ◌∙◌, arith, [], ◌∷◌, List, length, Option, Some, None, refl, eqb-true, ◌⊎◌, find, option_and_then, is_some, is_none, fun_ext, Set, mem}
 use Rattle.graph_core.proofs.Common.{Graph}
 use Rattle.refusals.specs.declared.places.EarOfTwo.{EarOfTwo}
 use Rattle.refusals.specs.declared.places.EarOfTwo.TheVariants.{First, Second}

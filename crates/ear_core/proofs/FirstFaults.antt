@@ -1,6 +1,6 @@
 -- What the code's tests of an ear say of the definitions: the first test that fails, the vertices
 -- met by marks, and inner vertices that are free.
-use Rattle.counting.proofs.Common.{◌≡◌, ℕ, suc, true, false, ◌==◌, refl, sym, ap, ap₂, ◌∙◌, arith, ◌&&◌, ◌||◌, not, eq-eqb, ne_eqb, Some, None, [], ◌∷◌, List, length, All, subst, inl, inr, same_tests, and_parts, and_from, both_ways, or_cases, or_left, or_right, false_from_ne_true, true≢false, some_true, true_some, bit, mem, Set, some}
+use Rattle.graph_core.proofs.from_counting.Common.{◌≡◌, ℕ, suc, true, false, ◌==◌, refl, sym, ap, ap₂, ◌∙◌, arith, ◌&&◌, ◌||◌, not, eq-eqb, ne_eqb, Some, None, [], ◌∷◌, List, length, All, subst, inl, inr, same_tests, and_parts, and_from, both_ways, or_cases, or_left, or_right, false_from_ne_true, true≢false, some_true, true_some, bit, mem, Set, some}
 use Rattle.graph_core.proofs.Common.{ends_of, edge_at, ends_le_degree, Graph, size, first_end, second_end}
 use Rattle.ear_core.specs.Common.{last_vertex, is_met, inner_on_stage, edge_used, is_path, has_odd_length, has_good_ends, has_free_inner, has_new_edges, ear_fault, inner_vertices, no_member}
 use Rattle.ear_core.proofs.TraceEdges.{met-some, some-met}

@@ -1,6 +1,6 @@
 -- One edge is a stage: its two ends are joined, and it is itself the perfect matching. And the
 -- edges of steps that are taken are more and more: each step adds one.
-use Rattle.counting.proofs.Common.{◌≡◌, ℕ, ◌+◌, ◌≤◌, true, ◌==◌, refl, sym, ap, ◌∙◌, arith, ◌&&◌, eq-eqb, ne_eqb, eqb-true, ◌⊎◌, inl, inr, [], ◌∷◌, List, length, cases_eq, and_from, true≢false, or_left, or_right, or_cases, count_more, true_some, at_le_total, bit, count, Within, is_odd, mem, Set, singleton}
+use Rattle.graph_core.proofs.from_counting.Common.{◌≡◌, ℕ, ◌+◌, ◌≤◌, true, ◌==◌, refl, sym, ap, ◌∙◌, arith, ◌&&◌, eq-eqb, ne_eqb, eqb-true, ◌⊎◌, inl, inr, [], ◌∷◌, List, length, cases_eq, and_from, true≢false, or_left, or_right, or_cases, count_more, true_some, at_le_total, bit, count, Within, is_odd, mem, Set, singleton}
 use Rattle.graph_core.proofs.Common.{degree_congr, ends_of, has_ends-own, has_ends-back, Graph, size, first_end, second_end, degree, has_ends, IsMultigraph}
 use Rattle.ear_core.proofs.TraceEdges.{list_ends, mem_degree, met-some, edges-within}
 use Rattle.ear_core.specs.Common.{PlainStep, next_stage, IsStep, IsEar, is_met, adjacent_by, IsStage, with_edges}

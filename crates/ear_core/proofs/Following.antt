@@ -1,8 +1,8 @@
 -- The walk along two perfect matchings as the code makes it: the edges are appended one by one,
 -- and the vertices used are those passed.
-use Rattle.counting.proofs.Common.{◌≡◌, ℕ, suc, zero, ◌+◌, ◌≤◌, Bool, true, false, cond, ◌==◌, ◌||◌, not, sym, ap, ◌∙◌, arith, subst, List, [], ◌∷◌, ◌++◌, drop, Some, slice_get, append_assoc, fun_ext, and_parts, or_right, count_more, or_false_back, Within, count, mem, Set, complement}
+use Rattle.graph_core.proofs.from_counting.Common.{◌≡◌, ℕ, suc, zero, ◌+◌, ◌≤◌, Bool, true, false, cond, ◌==◌, ◌||◌, not, sym, ap, ◌∙◌, arith, subst, List, [], ◌∷◌, ◌++◌, drop, Some, slice_get, append_assoc, fun_ext, and_parts, or_right, count_more, or_false_back, Within, count, mem, Set, complement}
 use Rattle.graph_core.proofs.Common.{Graph, IsGraph}
-use Rattle.match_core.specs.declared.matching.MatchRow.{MatchRow}
+use Rattle.two_ears.specs.from_match_core.declared.matching.MatchRow.{MatchRow}
 use Rattle.ear_core.specs.Common.{row_edge, mate, KeepsMates, LeadsAlternately, IsClear, IsTraced, HoldsMatesOff, IsMatedEar, AreMatedEars, is_left, PlainEar, trail, is_met}
 use Rattle.ear_core.proofs.TraceEdges.{start_mem}
 use Rattle.ear_core.proofs.NextStages.{met-within}

@@ -1,9 +1,9 @@
 -- What the builder has made goes on by a step, and by the edges between partners.
 -- Idea: each fact on the old stage goes over to the next one by the fact on the step; an edge
 -- between partners is an ear of its own.
-use Rattle.counting.proofs.Common.{◌≡◌, ℕ, ◌+◌, ◌≤◌, ◌==◌, eq-eqb, true, Result, OnOk, ◌++◌, ◌∷◌, [], List, arith, ap, map, sym, subst, refl, false, ◌∙◌, fun_ext, or_left, or_right, count_complement, count_more, Within, complement, count, mem, Set}
+use Rattle.graph_core.proofs.from_counting.Common.{◌≡◌, ℕ, ◌+◌, ◌≤◌, ◌==◌, eq-eqb, true, Result, OnOk, ◌++◌, ◌∷◌, [], List, arith, ap, map, sym, subst, refl, false, ◌∙◌, fun_ext, or_left, or_right, count_complement, count_more, Within, complement, count, mem, Set}
 use Rattle.graph_core.proofs.Common.{Graph, IsGraph, first_end, second_end, size}
-use Rattle.match_search.specs.Common.{marks}
+use Rattle.two_ears.specs.from_match_search.Common.{marks}
 use Rattle.ear_core.proofs.NeededPairs.{each-go_on}
 use Rattle.ear_core.proofs.Searching.{all-edges}
 use Rattle.ear_core.proofs.StagePartners.{edge-ear, edge-goes, edge-met, step-partners}

@@ -1,7 +1,7 @@
 -- The answer to a list of steps, step by step: what is answered of the steps after one that is
 -- taken is answered of all. And the answer to a list is right both ways, since a list of steps
 -- has no refusal or leads not to all edges.
-use Rattle.counting.proofs.Common.{◌≡◌, ◌↔◌, ℕ, ◌+◌, ◌≤◌, Bool, true, false, List, ◌∷◌, Option, Some, None, Result, IfOk, refl, sym, ap, subst, arith, fun_ext, both_ways, IfOk-weaker, Within, count, Set, singleton}
+use Rattle.graph_core.proofs.from_counting.Common.{◌≡◌, ◌↔◌, ℕ, ◌+◌, ◌≤◌, Bool, true, false, List, ◌∷◌, Option, Some, None, Result, IfOk, refl, sym, ap, subst, arith, fun_ext, both_ways, IfOk-weaker, Within, count, Set, singleton}
 use Rattle.graph_core.proofs.Common.{Graph, size, IsMultigraph}
 use Rattle.ear_core.specs.Common.{PlainStep, PlainEars, next_stage, IsEarList, PlainWhy, step_fault, IsJudged, IsRefused, IsStage, refusal_of}
 use Rattle.ear_core.specs.declared.judgement.EarJudgement.{EarJudgement}

@@ -41,3 +41,5 @@ pub mod MatchedStages
 pub mod LoneParts
 pub mod LoneWholes
 pub mod LoneTables
+-- Passed on to the crates above: from_NAME is all that the crate NAME has in its folder of this name.
+pub use Rattle.graph_core.proofs.from_counting as from_counting

@@ -1,8 +1,8 @@
 -- From a matching to a single ear. If the matching leads out of the stage at two vertices alone,
 -- each ear that it makes with the kept one has these for its ends, so it serves alone.
-use Rattle.counting.proofs.Common.{◌≡◌, ◌≢◌, ℕ, ◌+◌, ◌≤◌, Bool, true, false, cond, ◌==◌, ◌&&◌, ◌||◌, not, refl, sym, ap, ◌∙◌, arith, eq-eqb, eqb-true, ne_eqb, inl, inr, subst, List, [], ◌∷◌, both_ways, cases_eq, false_from_ne_true, or_cases, or_left, or_right, or_parts, true≢false, not-true, same_tests, Within, bit, IsIn, mem, Set, pair_set}
+use Rattle.graph_core.proofs.from_counting.Common.{◌≡◌, ◌≢◌, ℕ, ◌+◌, ◌≤◌, Bool, true, false, cond, ◌==◌, ◌&&◌, ◌||◌, not, refl, sym, ap, ◌∙◌, arith, eq-eqb, eqb-true, ne_eqb, inl, inr, subst, List, [], ◌∷◌, both_ways, cases_eq, false_from_ne_true, or_cases, or_left, or_right, or_parts, true≢false, not-true, same_tests, Within, bit, IsIn, mem, Set, pair_set}
 use Rattle.graph_core.proofs.Common.{Graph, IsGraph, first_end, second_end}
-use Rattle.match_core.specs.Common.{MatchingValue, edges_of}
+use Rattle.two_ears.specs.from_match_core.Common.{MatchingValue, edges_of}
 use Rattle.two_ears.specs.VertexPairs.{in_pairs, pairs_at}
 use Rattle.ear_core.proofs.LoneMatchings.{ends-differ}
 use Rattle.ear_core.proofs.Mates.{row-found}

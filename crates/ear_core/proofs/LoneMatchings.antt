@@ -1,7 +1,7 @@
 -- From a single ear to a matching. If a stage with an ear is matching covered and the rest has a
 -- perfect matching, then this one, the odd edges of the ear and a perfect matching of the stage
 -- without the two ends are a perfect matching that leads out of the stage at the two ends alone.
-use Rattle.counting.proofs.Common.{◌≡◌, ◌≢◌, ℕ, ◌≤◌, true, false, not, refl, sym, ap, arith, eq-eqb, inl, inr, List, ◌∷◌, both_ways, cases_Bool, false_from_ne_true, or_cases, or_from, or_left, or_right, true≢false, or_false_back, Within, mem, Set, none, pair_set, union}
+use Rattle.graph_core.proofs.from_counting.Common.{◌≡◌, ◌≢◌, ℕ, ◌≤◌, true, false, not, refl, sym, ap, arith, eq-eqb, inl, inr, List, ◌∷◌, both_ways, cases_Bool, false_from_ne_true, or_cases, or_from, or_left, or_right, true≢false, or_false_back, Within, mem, Set, none, pair_set, union}
 use Rattle.graph_core.proofs.Common.{ends_le_degree, ends_of, IsCovered, Graph, IsGraph, IsMultigraph, first_end, second_end, size, IsEnd, IsPerfect}
 use Rattle.ear_core.proofs.AddedEars.{evens_at, odd_on}
 use Rattle.ear_core.proofs.NeededPairs.{stage-serves}

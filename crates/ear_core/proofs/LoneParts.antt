@@ -1,10 +1,10 @@
 -- The parts of a perfect matching that leads out of a stage at two of its vertices alone: what it
 -- has of the stage is a perfect matching without the two, and what it has off the stage and apart
 -- from their mates is one of the rest.
-use Rattle.counting.proofs.Common.{◌≡◌, ◌≢◌, ℕ, ◌≤◌, true, false, ◌==◌, ◌&&◌, ◌||◌, not, refl, sym, ap, ◌∙◌, arith, eq-eqb, eqb-true, inl, inr, subst, and_from, and_parts, both_ways, cases_Bool, cases_eq, false_from_ne_true, not-true, or_cases, or_from, or_left, or_right, true_some, Within, Set, complement, mem, none, pair_set, union}
-use Rattle.barrier_kit.proofs.Common.{perfect_congr}
+use Rattle.graph_core.proofs.from_counting.Common.{◌≡◌, ◌≢◌, ℕ, ◌≤◌, true, false, ◌==◌, ◌&&◌, ◌||◌, not, refl, sym, ap, ◌∙◌, arith, eq-eqb, eqb-true, inl, inr, subst, and_from, and_parts, both_ways, cases_Bool, cases_eq, false_from_ne_true, not-true, or_cases, or_from, or_left, or_right, true_some, Within, Set, complement, mem, none, pair_set, union}
+use Rattle.two_ears.proofs.from_barrier_kit.Common.{perfect_congr}
 use Rattle.graph_core.proofs.Common.{edge_at, ends_le_degree, ends_of, has_ends-from, Graph, IsEnd, IsGraph, IsMultigraph, degree, first_end, has_ends, second_end, size, HasEnds, HasPerfect, IsPerfect}
-use Rattle.match_core.specs.Common.{MatchingValue, edges_of, has_end_in, left_over}
+use Rattle.two_ears.specs.from_match_core.Common.{MatchingValue, edges_of, has_end_in, left_over}
 use Rattle.ear_core.proofs.EngineGraphs.{ends-met}
 use Rattle.ear_core.proofs.LoneLeads.{leads-off, off-ends}
 use Rattle.ear_core.proofs.LoneMatchings.{end-counts}

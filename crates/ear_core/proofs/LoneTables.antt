@@ -1,8 +1,8 @@
 -- The partners on a stage and those off it tell at which two vertices alone a perfect matching
 -- leads out of the stage.
-use Rattle.counting.proofs.Common.{◌≡◌, ◌≢◌, ℕ, List, Bool, true, suc, ◌+◌, false, ◌==◌, ◌&&◌, ◌||◌, not, length, sym, ap, ap₂, ◌∙◌, arith, eq-eqb, ne_eqb, ◌⊎◌, inl, inr, subst, fun_ext, and_from, and_parts, both_ways, not-true, or_cases, or_left, or_right, some_true, true_some, Within, Set, complement, item, mem, pair_set, some, union}
+use Rattle.graph_core.proofs.from_counting.Common.{◌≡◌, ◌≢◌, ℕ, List, Bool, true, suc, ◌+◌, false, ◌==◌, ◌&&◌, ◌||◌, not, length, sym, ap, ap₂, ◌∙◌, arith, eq-eqb, ne_eqb, ◌⊎◌, inl, inr, subst, fun_ext, and_from, and_parts, both_ways, not-true, or_cases, or_left, or_right, some_true, true_some, Within, Set, complement, item, mem, pair_set, some, union}
 use Rattle.graph_core.proofs.Common.{has_ends-from, has_perfect_found, has_perfect_says, Graph, IsGraph, IsMultigraph, first_end, has_ends, has_perfect, second_end, size, HasPerfect}
-use Rattle.match_core.specs.Common.{ArePartners, MatchingValue}
+use Rattle.two_ears.specs.from_match_core.Common.{ArePartners, MatchingValue}
 use Rattle.ear_core.proofs.NextStages.{met-within}
 use Rattle.ear_core.proofs.LoneParts.{kept-rest, lone-parts}
 use Rattle.ear_core.proofs.StagePartners.{all-four, four}

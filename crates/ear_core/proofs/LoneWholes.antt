@@ -1,7 +1,7 @@
 -- From parts to a perfect matching that leads out of a stage at two of its vertices alone: one of
 -- the stage without the two, one of the rest, and the edges that join them.
-use Rattle.counting.proofs.Common.{◌≡◌, ◌≢◌, ℕ, ◌+◌, ◌*◌, Bool, true, false, ◌==◌, ◌||◌, refl, sym, ap, ◌∙◌, arith, eq-eqb, eqb-true, ne_eqb, ◌⊎◌, inl, inr, subst, and_parts, both_ways, cases_Bool, cases_eq, false_from_ne_true, not-true, or_cases, or_false, or_false_back, or_from, or_left, or_parts, or_right, some_true, true≢false, bit, Within, Set, complement, none, pair_set, put, union}
-use Rattle.barrier_kit.proofs.Common.{perfect_congr}
+use Rattle.graph_core.proofs.from_counting.Common.{◌≡◌, ◌≢◌, ℕ, ◌+◌, ◌*◌, Bool, true, false, ◌==◌, ◌||◌, refl, sym, ap, ◌∙◌, arith, eq-eqb, eqb-true, ne_eqb, ◌⊎◌, inl, inr, subst, and_parts, both_ways, cases_Bool, cases_eq, false_from_ne_true, not-true, or_cases, or_false, or_false_back, or_from, or_left, or_parts, or_right, some_true, true≢false, bit, Within, Set, complement, none, pair_set, put, union}
+use Rattle.two_ears.proofs.from_barrier_kit.Common.{perfect_congr}
 use Rattle.graph_core.proofs.Common.{bit_other, bit_same, degree_put, ends_le_degree, ends_of, ends_of_is, has_ends-cases, Graph, IsEnd, IsMultigraph, degree, first_end, has_ends, size, HasEnds, HasPerfect, IsPerfect}
 use Rattle.ear_core.proofs.EngineGraphs.{ends-met}
 use Rattle.ear_core.proofs.LoneMatchings.{end-counts, open-ends}

@@ -1,10 +1,10 @@
 -- A perfect matching by marked edges, from one of the graph of these edges: it holds the edges
 -- whose rank among the marked ones is an edge of that one. A perfect matching that holds them all
 -- has no other edge.
-use Rattle.counting.proofs.Common.{◌≡◌, ℕ, suc, zero, ◌+◌, ◌==◌, ◌||◌, refl, sym, ap, ◌∙◌, arith, eq-eqb, List, [], ◌∷◌, drop, map, Some, All, get_or, slice_get, and_parts, or_left, true≢false, rising_holds, rising_only, mem-item, Within, count, mem, rising_list, Set, none}
+use Rattle.graph_core.proofs.from_counting.Common.{◌≡◌, ℕ, suc, zero, ◌+◌, ◌==◌, ◌||◌, refl, sym, ap, ◌∙◌, arith, eq-eqb, List, [], ◌∷◌, drop, map, Some, All, get_or, slice_get, and_parts, or_left, true≢false, rising_holds, rising_only, mem-item, Within, count, mem, rising_list, Set, none}
 use Rattle.graph_core.proofs.Common.{degree_congr, edge_at, Graph, IsGraph, first_end, second_end, size, with_ends, HasPerfect, IsPerfect}
-use Rattle.match_core.specs.declared.matching.MatchRow.{MatchRow}
-use Rattle.match_search.specs.Common.{HasPerfectWith, HoldsAll}
+use Rattle.two_ears.specs.from_match_core.declared.matching.MatchRow.{MatchRow}
+use Rattle.two_ears.specs.from_match_search.Common.{HasPerfectWith, HoldsAll}
 use Rattle.ear_core.proofs.EngineGraphs.{listed_degree, rank_of, same_rank}
 use Rattle.ear_core.proofs.Mates.{one-at}
 use Rattle.ear_core.specs.Common.{IsPerfectBy, by_rank, listed}

@@ -1,6 +1,6 @@
 -- The vertices that a stage meets, as its edges are marked one by one.
 -- Idea: an edge is at its two ends alone, so a mark more adds these two vertices and no others.
-use Rattle.counting.proofs.Common.{◌≡◌, ℕ, Bool, true, false, ◌==◌, ◌&&◌, ◌||◌, ◌∙◌, arith, eq-eqb, eqb-true, inl, inr, refl, subst, List, and_from, and_parts, false_from_ne_true, or_assoc, or_cases, or_left, mem, or_right, same_tests, some_true, true_some, true≢false, Within, Set}
+use Rattle.graph_core.proofs.from_counting.Common.{◌≡◌, ℕ, Bool, true, false, ◌==◌, ◌&&◌, ◌||◌, ◌∙◌, arith, eq-eqb, eqb-true, inl, inr, refl, subst, List, and_from, and_parts, false_from_ne_true, or_assoc, or_cases, or_left, mem, or_right, same_tests, some_true, true_some, true≢false, Within, Set}
 use Rattle.graph_core.proofs.Common.{Graph, size, first_end, second_end}
 use Rattle.ear_core.specs.Common.{is_met}
 use Rattle.ear_core.proofs.FirstFaults.{met-ends}

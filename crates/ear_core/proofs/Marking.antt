@@ -1,6 +1,6 @@
 -- Marks set at the places of further edges, and the tests of a step of two ears.
 -- Idea: the tests only ask for members, so lists with the same members give the same fault.
-use Rattle.counting.proofs.Common.{◌≡◌, ℕ, ◌||◌, if◌then◌else◌, List, [], Option, Some, None, ap, arith, fun_ext, mem, Set}
+use Rattle.graph_core.proofs.from_counting.Common.{◌≡◌, ℕ, ◌||◌, if◌then◌else◌, List, [], Option, Some, None, ap, arith, fun_ext, mem, Set}
 use Rattle.graph_core.proofs.Common.{Graph}
 use Rattle.ear_core.specs.Common.{PlainEar, two, PlainWhy, not_path, even_length, bad_ends, inner_on_stage, edge_used, is_path, has_odd_length, has_good_ends, has_new_edges, ear_fault, inner_vertices, no_member, step_fault, is_met}
 

@@ -1,6 +1,6 @@
 -- A stage that is kept while a list of ears is checked: an edge of it lies in a perfect matching if
 -- its ends are partners, and a single ear between partners on an earlier stage makes a stage.
-use Rattle.counting.proofs.Common.{◌≡◌, ◌↔◌, ℕ, Option, Some, None, true, sym, subst, Within, Set}
+use Rattle.graph_core.proofs.from_counting.Common.{◌≡◌, ◌↔◌, ℕ, Option, Some, None, true, sym, subst, Within, Set}
 use Rattle.graph_core.proofs.Common.{Graph, IsGraph, IsMultigraph, first_end, second_end, size}
 use Rattle.ear_core.proofs.EngineGraphs.{edge_serves, ends-met}
 use Rattle.ear_core.proofs.ServingPairs.{serving-one}

@@ -1,7 +1,7 @@
 -- Paths of two perfect matchings. From v the edges of m and n are followed in turn; the vertices
 -- passed hold their mates, so a new vertex comes each time, and the path ends at a vertex of the
 -- stage.
-use Rattle.counting.proofs.Common.{◌≡◌, ℕ, ◌+◌, ◌≤◌, ◌≢◌, true, false, ◌==◌, refl, sym, ap, ◌∙◌, arith, ◌||◌, not, eq-eqb, ne_eqb, eqb-true, ◌⊎◌, inl, inr, subst, [], ◌∷◌, List, cases_eq, cases_Bool, both_ways, true≢false, false_from_ne_true, not-true, or_left, or_right, or_cases, count_more, times_mem, Within, bit, count, mem, times, Set, complement}
+use Rattle.graph_core.proofs.from_counting.Common.{◌≡◌, ℕ, ◌+◌, ◌≤◌, ◌≢◌, true, false, ◌==◌, refl, sym, ap, ◌∙◌, arith, ◌||◌, not, eq-eqb, ne_eqb, eqb-true, ◌⊎◌, inl, inr, subst, [], ◌∷◌, List, cases_eq, cases_Bool, both_ways, true≢false, false_from_ne_true, not-true, or_left, or_right, or_cases, count_more, times_mem, Within, bit, count, mem, times, Set, complement}
 use Rattle.ear_core.proofs.TraceEdges.{start_mem}
 use Rattle.ear_core.proofs.Mates.{AreMates, mate_back, mate_within}
 use Rattle.ear_core.specs.Common.{mate, KeepsMates, LeadsAlternately, IsClear, last_vertex, trail}

@@ -1,10 +1,10 @@
 -- The mates of a perfect matching: each vertex has one edge of it, and the other end of that edge
 -- has the same one. So a vertex is the mate of its mate.
-use Rattle.counting.proofs.Common.{◌≡◌, ℕ, suc, ◌≢◌, Bool, true, cond, ◌==◌, refl, sym, ap, ◌∙◌, arith, ◌||◌, eq-eqb, eqb-true, List, [], ◌∷◌, map, All, cases_eq, or_left, or_right, or_cases, true≢false, Within, mem, Set, none}
-use Rattle.barrier_kit.proofs.Common.{loop_free}
+use Rattle.graph_core.proofs.from_counting.Common.{◌≡◌, ℕ, suc, ◌≢◌, Bool, true, cond, ◌==◌, refl, sym, ap, ◌∙◌, arith, ◌||◌, eq-eqb, eqb-true, List, [], ◌∷◌, map, All, cases_eq, or_left, or_right, or_cases, true≢false, Within, mem, Set, none}
+use Rattle.two_ears.proofs.from_barrier_kit.Common.{loop_free}
 use Rattle.graph_core.proofs.Common.{edge_at, two_ends_le_degree, Graph, size, first_end, IsGraph, IsPerfect}
-use Rattle.match_core.specs.Common.{MatchingValue, IsRowOf, edges_of}
-use Rattle.match_core.specs.declared.matching.MatchRow.{MatchRow}
+use Rattle.two_ears.specs.from_match_core.Common.{MatchingValue, IsRowOf, edges_of}
+use Rattle.two_ears.specs.from_match_core.declared.matching.MatchRow.{MatchRow}
 use Rattle.ear_core.specs.Common.{IsPerfectRows, row_edge, mate, other_end}
 use Rattle.ear_core.proofs.TraceEdges.{ends_of-other_end}
 use Rattle.ear_core.proofs.Walking.{joins}

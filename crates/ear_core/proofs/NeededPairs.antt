@@ -1,7 +1,7 @@
 -- Two ears are needed where neither of them serves. If a stage with an ear is matching covered,
 -- then a perfect matching of it through the first edge of the ear leaves the ear at its other end
 -- too, by parity; so the stage has a perfect matching without the two ends.
-use Rattle.counting.proofs.Common.{◌≡◌, ◌≢◌, ℕ, ◌+◌, ◌*◌, ◌≤◌, Bool, true, false, ◌==◌, refl, sym, ap, arith, ◌&&◌, eq-eqb, ne_eqb, eqb-true, inl, inr, subst, [], ◌∷◌, ◌++◌, List, append_assoc, fun_ext, and_from, and_parts, both_ways, cases_Bool, cases_eq, or_cases, or_left, or_parts, or_right, true≢false, total_add, total_at, total_congr, Within, bit, IsIn, mem, Set, pair_set, put}
+use Rattle.graph_core.proofs.from_counting.Common.{◌≡◌, ◌≢◌, ℕ, ◌+◌, ◌*◌, ◌≤◌, Bool, true, false, ◌==◌, refl, sym, ap, arith, ◌&&◌, eq-eqb, ne_eqb, eqb-true, inl, inr, subst, [], ◌∷◌, ◌++◌, List, append_assoc, fun_ext, and_from, and_parts, both_ways, cases_Bool, cases_eq, or_cases, or_left, or_parts, or_right, true≢false, total_add, total_at, total_congr, Within, bit, IsIn, mem, Set, pair_set, put}
 use Rattle.graph_core.proofs.Common.{degree_put, edge_at, ends_le_degree, ends_of, sum_degrees, Graph, IsGraph, degree, size}
 use Rattle.ear_core.proofs.NextStages.{met-within}
 use Rattle.ear_core.proofs.Searching.{before-among}

@@ -1,6 +1,6 @@
 -- Steps from a stage. Whether an edge lies in a perfect matching of a stage is decided, and the
 -- second ear of a step is an ear of the stage with the first.
-use Rattle.counting.proofs.Common.{◌≡◌, ℕ, true, arith, List, both_ways, false_from_ne_true, or_left, or_from, Within, Set, none}
+use Rattle.graph_core.proofs.from_counting.Common.{◌≡◌, ℕ, true, arith, List, both_ways, false_from_ne_true, or_left, or_from, Within, Set, none}
 use Rattle.ear_core.proofs.TraceEdges.{met-some, some-met, degree_le}
 use Rattle.ear_core.proofs.AddedEars.{new-met}
 use Rattle.ear_core.specs.Common.{IsEar, IsEarPair, IsNearlyStage, is_met, IsStage, with_edges}

@@ -1,8 +1,8 @@
 -- Two vertices on opposite sides of a stage whose edges all cross between the sides serve.
 -- Idea: the stage as a graph of its own is matching covered and bipartite, so it has a perfect
 -- matching without the two.
-use Rattle.counting.proofs.Common.{◌≡◌, ℕ, Bool, true, false, ◌==◌, refl, ap, sym, ◌∙◌, arith, ◌&&◌, not, eq-eqb, eqb-true, and_from, and_parts, cases_Bool, or_comm, same_tests, rank_once, some_true, true_some, Within, count, Set, pair_set, some}
-use Rattle.barrier_kit.proofs.Common.{perfect_congr}
+use Rattle.graph_core.proofs.from_counting.Common.{◌≡◌, ℕ, Bool, true, false, ◌==◌, refl, ap, sym, ◌∙◌, arith, ◌&&◌, not, eq-eqb, eqb-true, and_from, and_parts, cases_Bool, or_comm, same_tests, rank_once, some_true, true_some, Within, count, Set, pair_set, some}
+use Rattle.two_ears.proofs.from_barrier_kit.Common.{perfect_congr}
 use Rattle.graph_core.proofs.Common.{IsSide, Graph, IsGraph, in_cut, size, HasPerfect}
 use Rattle.ear_core.proofs.EngineGraphs.{ends-met}
 use Rattle.ear_core.proofs.NextStages.{met-within}

@@ -1,8 +1,8 @@
 -- The graph of a stage with its vertices numbered by rank; edges keep their numbers, and those
 -- off the stage are loops. It is matching covered, and its perfect matchings are those of the
 -- stage. So the two-ear theorem holds for pairs of vertices of a stage.
-use Rattle.counting.proofs.Common.{◌≡◌, ℕ, suc, zero, ◌+◌, ◌-◌, ◌≤◌, ◌≢◌, Bool, true, false, cond, ◌==◌, refl, sym, ap, ap₂, ◌∙◌, arith, ◌&&◌, not, eq-eqb, ne_eqb, inl, inr, subst, [], ◌∷◌, ◌++◌, List, length, slice_index_or, get_or-append-add, true_from_ne_false, cases_eq, cases_Bool, cases_order, and_parts, true≢false, length-append, get_or_append_left, count_congr, count_up, rank_once, member_ranked, some_true, at_le_total, two_le_total, Within, bit, count, Set, none, union, IsIn}
-use Rattle.barrier_kit.proofs.Common.{loop_free}
+use Rattle.graph_core.proofs.from_counting.Common.{◌≡◌, ℕ, suc, zero, ◌+◌, ◌-◌, ◌≤◌, ◌≢◌, Bool, true, false, cond, ◌==◌, refl, sym, ap, ap₂, ◌∙◌, arith, ◌&&◌, not, eq-eqb, ne_eqb, inl, inr, subst, [], ◌∷◌, ◌++◌, List, length, slice_index_or, get_or-append-add, true_from_ne_false, cases_eq, cases_Bool, cases_order, and_parts, true≢false, length-append, get_or_append_left, count_congr, count_up, rank_once, member_ranked, some_true, at_le_total, two_le_total, Within, bit, count, Set, none, union, IsIn}
+use Rattle.two_ears.proofs.from_barrier_kit.Common.{loop_free}
 use Rattle.ear_core.proofs.EngineGraphs.{ends-met}
 use Rattle.ear_core.proofs.TraceEdges.{degree_le, unmet}
 use Rattle.ear_core.proofs.NextStages.{met-within}

@@ -1,7 +1,7 @@
 -- A list of steps from a stage leads to all edges, or has exactly one first refusal. The tests of
 -- a step say that it is a step; then only the odd edges of its ears are left to ask, and the new
 -- stage is covered exactly when no edge of it is refused.
-use Rattle.counting.proofs.Common.{◌≡◌, ℕ, ◌+◌, Bool, true, false, if◌then◌else◌, Option, Some, None, refl, sym, ap, ◌∙◌, ◌||◌, inl, inr, [], ◌∷◌, List, arith, both_ways, Within, mem, Set, none}
+use Rattle.graph_core.proofs.from_counting.Common.{◌≡◌, ℕ, ◌+◌, Bool, true, false, if◌then◌else◌, Option, Some, None, refl, sym, ap, ◌∙◌, ◌||◌, inl, inr, [], ◌∷◌, List, arith, both_ways, Within, mem, Set, none}
 use Rattle.graph_core.proofs.Common.{Graph, size, IsGraph}
 use Rattle.ear_core.specs.Common.{IsStage, AllowedBy, with_edges, IsNearlyStage, odds, PlainStep, one, two, next_stage, IsStep, AreSteps, PlainWhy, not_path, even_length, bad_ends, inner_on_stage, edge_used, is_path, has_odd_length, has_good_ends, has_free_inner, has_new_edges, Passes, ear_fault, first_why, step_fault, IsLeastUnallowed, IsStepRefused, IsFirstRefusal}
 use Rattle.ear_core.proofs.AddedEars.{grow}

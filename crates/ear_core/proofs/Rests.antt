@@ -1,7 +1,7 @@
 -- The rest of a graph off a stage. The even edges of an ear meet its inner vertices alone, so with
 -- a perfect matching off the new stage they are one off the stage before; at the last stage nothing
 -- is left.
-use Rattle.counting.proofs.Common.{◌≡◌, ℕ, true, false, ◌==◌, not, refl, sym, ap, ◌∙◌, arith, eq-eqb, List, [], ◌∷◌, both_ways, cases_Bool, false_from_ne_true, true≢false, Within, Set, everything, none, union}
+use Rattle.graph_core.proofs.from_counting.Common.{◌≡◌, ℕ, true, false, ◌==◌, not, refl, sym, ap, ◌∙◌, arith, eq-eqb, List, [], ◌∷◌, both_ways, cases_Bool, false_from_ne_true, true≢false, Within, Set, everything, none, union}
 use Rattle.graph_core.proofs.Common.{degree_congr, ends_le_degree, ends_of, IsCovered, Graph, IsGraph, IsMultigraph, degree, first_end, size, HasPerfect, IsPerfect}
 use Rattle.ear_core.proofs.AddedEars.{even_on}
 use Rattle.ear_core.proofs.EngineGraphs.{ends-met}

@@ -2,7 +2,7 @@
 -- share a vertex; each vertex of the stage that the one matching leads out of it is an end of
 -- one. So the edges of this matching on the stage are a perfect matching of it without all the
 -- ends.
-use Rattle.counting.proofs.Common.{◌≡◌, ℕ, ◌+◌, ◌≤◌, true, false, ◌==◌, refl, sym, ap, ◌∙◌, arith, ◌&&◌, ◌||◌, not, eq-eqb, ne_eqb, eqb-true, inl, inr, subst, [], ◌∷◌, List, cases_eq, cases_Bool, and_parts, and_from, both_ways, true≢false, false_from_ne_true, not-true, not-false, or_left, or_right, or_parts, or_cases, times_mem, bit, Within, mem, times, IsIn, Set, none}
+use Rattle.graph_core.proofs.from_counting.Common.{◌≡◌, ℕ, ◌+◌, ◌≤◌, true, false, ◌==◌, refl, sym, ap, ◌∙◌, arith, ◌&&◌, ◌||◌, not, eq-eqb, ne_eqb, eqb-true, inl, inr, subst, [], ◌∷◌, List, cases_eq, cases_Bool, and_parts, and_from, both_ways, true≢false, false_from_ne_true, not-true, not-false, or_left, or_right, or_parts, or_cases, times_mem, bit, Within, mem, times, IsIn, Set, none}
 use Rattle.graph_core.proofs.Common.{ends_of, edge_at, ends_le_degree, Graph, size, degree, IsPerfect}
 use Rattle.two_ears.specs.VertexPairs.{pairs_at, in_pairs}
 use Rattle.ear_core.specs.Common.{LeadsAlternately, IsClear, HoldsMatesOff, IsMatedEar, ends_of_ears, AreMatedEars, is_left, AreCandidates, PlainEar, trail, last_vertex, is_met, IsPerfectOff}

@@ -1,7 +1,7 @@
 -- The search for ears that serve: what is found or not among the ears after the first one and
 -- what of that one make what is found or not among all. After the search one ear serves or two
 -- do.
-use Rattle.counting.proofs.Common.{◌≡◌, ℕ, ◌+◌, ◌≤◌, true, ◌==◌, ◌||◌, ◌⊎◌, ◌↔◌, inl, inr, refl, sym, ap, ◌∙◌, arith, subst, eq-eqb, List, [], ◌∷◌, Option, Some, None, Result, IfOk, IfSome, IfNone, All, get_or, AllByRecursion, mem-item, or_comm, bit, Within, mem, IsIn, Set, union}
+use Rattle.graph_core.proofs.from_counting.Common.{◌≡◌, ℕ, ◌+◌, ◌≤◌, true, ◌==◌, ◌||◌, ◌⊎◌, ◌↔◌, inl, inr, refl, sym, ap, ◌∙◌, arith, subst, eq-eqb, List, [], ◌∷◌, Option, Some, None, Result, IfOk, IfSome, IfNone, All, get_or, AllByRecursion, mem-item, or_comm, bit, Within, mem, IsIn, Set, union}
 use Rattle.graph_core.proofs.Common.{Graph, size, IsGraph, HasPerfect}
 use Rattle.two_ears.specs.VertexPairs.{pairs_at}
 use Rattle.ear_core.specs.Common.{AreCandidates, Serves, ends_of_ear, ends_of_ears, IsChosen, IsAsked, IsBefore, AreEars, FindsAlone, FindsBeside, FindsTwo, NoneServes, NoneServesBeside, NoTwoServe, PlainEar, PlainStep, one, two, FitsEar, IsStep, next_stage, last_vertex, trail, IsEar, IsStage}

@@ -1,7 +1,7 @@
 -- Ears whose ends serve. If the stage has a perfect matching without the ends of an ear, the
 -- odd edges of the ear complete it to one of the new stage, so each of its edges lies in one; two
 -- ears whose ends serve together are added one after the other.
-use Rattle.counting.proofs.Common.{◌≡◌, ℕ, true, false, refl, sym, ◌∙◌, ◌||◌, inl, inr, List, arith, true≢false, or_left, or_right, or_cases, or_false_back, mem, Set, none, union, pair_set}
+use Rattle.graph_core.proofs.from_counting.Common.{◌≡◌, ℕ, true, false, refl, sym, ◌∙◌, ◌||◌, inl, inr, List, arith, true≢false, or_left, or_right, or_cases, or_false_back, mem, Set, none, union, pair_set}
 use Rattle.graph_core.proofs.Common.{Graph, IsGraph}
 use Rattle.ear_core.specs.Common.{IsPerfectOf, IsPerfectOff, IsStage, with_edges, last_vertex, IsEar, IsEarPair, odds, IsNearlyStage}
 use Rattle.ear_core.proofs.AddedEars.{odd_on, none_but, grow}

@@ -1,6 +1,6 @@
 -- Of the candidates for a step one serves or two do, by the two-ear theorem on the graph of the
 -- stage, and then it is a step to a stage.
-use Rattle.counting.proofs.Common.{◌≡◌, ◌≢◌, ℕ, ◌+◌, ◌≤◌, true, false, ◌==◌, refl, sym, ap, ap₂, arith, eq-eqb, eqb-true, inl, inr, subst, [], ◌∷◌, List, false_from_ne_true, or_left, or_right, or_cases, bit, mem, IsIn, Set, union}
+use Rattle.graph_core.proofs.from_counting.Common.{◌≡◌, ◌≢◌, ℕ, ◌+◌, ◌≤◌, true, false, ◌==◌, refl, sym, ap, ap₂, arith, eq-eqb, eqb-true, inl, inr, subst, [], ◌∷◌, List, false_from_ne_true, or_left, or_right, or_cases, bit, mem, IsIn, Set, union}
 use Rattle.graph_core.proofs.Common.{ends_of, Graph, first_end, IsGraph}
 use Rattle.two_ears.specs.VertexPairs.{pairs_at, set_of_pair}
 use Rattle.ear_core.specs.Common.{ends_of_ears, AreCandidates, Serves, ends_of_ear, PlainEar, other_end, trail, last_vertex, IsEar, IsEarPair, is_met, IsStage, with_edges}

@@ -1,6 +1,6 @@
 -- The edges of the ears of a step, asked one by one: what is known after each.
 -- Idea: the new edge is allowed, or not below the known one, so what is known stays true.
-use Rattle.counting.proofs.Common.{◌≡◌, ℕ, arith, sym, None, Option, Result, IfOk, ◌∷◌, List, true≢false, Set, none}
+use Rattle.graph_core.proofs.from_counting.Common.{◌≡◌, ℕ, arith, sym, None, Option, Result, IfOk, ◌∷◌, List, true≢false, Set, none}
 use Rattle.graph_core.proofs.Common.{Graph}
 use Rattle.ear_core.specs.Common.{AllowedBy, with_edges, IsUpTo, Settled, asked_too}
 

@@ -1,10 +1,10 @@
 -- The classes of a stage: two of its vertices that are no partners have the same partners. Idea:
 -- the stage as a graph of its own is matching covered, and there to be equal or no partners is an
 -- equivalence.
-use Rattle.counting.proofs.Common.{◌≡◌, ◌⊎◌, ◌↔◌, ℕ, Bool, true, false, ◌||◌, ◌&&◌, ◌==◌, arith, eqb-true, ne_eqb, not, ap, ap₂, sym, ◌∙◌, inl, inr, subst, List, [], ◌∷◌, length, and_from, both_ways, cases_Bool, cases_eq, not-false, or_cases, rank_once, same_tests, Within, count, item, mem, Set, pair_set}
-use Rattle.barrier_kit.proofs.Common.{equivalent_back, equivalent_on, perfect_or_not}
+use Rattle.graph_core.proofs.from_counting.Common.{◌≡◌, ◌⊎◌, ◌↔◌, ℕ, Bool, true, false, ◌||◌, ◌&&◌, ◌==◌, arith, eqb-true, ne_eqb, not, ap, ap₂, sym, ◌∙◌, inl, inr, subst, List, [], ◌∷◌, length, and_from, both_ways, cases_Bool, cases_eq, not-false, or_cases, rank_once, same_tests, Within, count, item, mem, Set, pair_set}
+use Rattle.two_ears.proofs.from_barrier_kit.Common.{equivalent_back, equivalent_on, perfect_or_not}
 use Rattle.graph_core.proofs.Common.{Graph, IsGraph, HasPerfect}
-use Rattle.match_core.specs.Common.{are_partners}
+use Rattle.two_ears.specs.from_match_core.Common.{are_partners}
 use Rattle.ear_core.proofs.NextStages.{met-within}
 use Rattle.ear_core.proofs.RankedStages.{off-ranked, rank-test, rank-within, ranked-covered, ranked-graph, ranked-off, stage_graph}
 use Rattle.ear_core.proofs.StagePartners.{asked-says, says-asked}

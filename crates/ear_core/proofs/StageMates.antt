@@ -1,9 +1,9 @@
 -- The mates by the edges of a matching of the graph that are on a stage are mates in the graph of
 -- the stage, where these edges stand by rank.
-use Rattle.counting.proofs.Common.{◌≡◌, ◌≢◌, ◌-◌, ℕ, suc, zero, ◌+◌, ◌≤◌, Bool, true, false, cond, ◌==◌, ◌∙◌, refl, sym, ap, arith, eq-eqb, inl, inr, subst, not, List, [], ◌∷◌, ◌++◌, length, map, slice_index_or, slice_get, Some, get_or-append-add, and_parts, cases_eq, get_or_append_left, not-true, or_left, or_right, true≢false, bit, Within, count, mem, none, Set}
+use Rattle.graph_core.proofs.from_counting.Common.{◌≡◌, ◌≢◌, ◌-◌, ℕ, suc, zero, ◌+◌, ◌≤◌, Bool, true, false, cond, ◌==◌, ◌∙◌, refl, sym, ap, arith, eq-eqb, inl, inr, subst, not, List, [], ◌∷◌, ◌++◌, length, map, slice_index_or, slice_get, Some, get_or-append-add, and_parts, cases_eq, get_or_append_left, not-true, or_left, or_right, true≢false, bit, Within, count, mem, none, Set}
 use Rattle.graph_core.proofs.Common.{degree_congr, Graph, HasEnds, degree, first_end, second_end, size, with_ends, IsMatching, IsPerfect}
-use Rattle.match_core.specs.declared.matching.MatchRow.{MatchRow}
-use Rattle.match_search.specs.Common.{HasMates, numbers}
+use Rattle.two_ears.specs.from_match_core.declared.matching.MatchRow.{MatchRow}
+use Rattle.two_ears.specs.from_match_search.Common.{HasMates, numbers}
 use Rattle.ear_core.proofs.EngineGraphs.{listed_degree, listed_size, rank_of, same_rank}
 use Rattle.ear_core.proofs.RankedStages.{rank-within}
 use Rattle.ear_core.proofs.TraceEdges.{degree_le, unmet}

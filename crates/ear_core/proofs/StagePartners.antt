@@ -1,9 +1,9 @@
 -- The partners on a stage. Those in its graph tell them; partners stay partners when ears are
 -- added, since the even edges of an ear match its inner vertices; and an edge that joins two
 -- partners is an ear that serves.
-use Rattle.counting.proofs.Common.{◌≡◌, ◌≢◌, ◌↔◌, ℕ, ◌≤◌, ◌+◌, Bool, true, false, cond, ◌==◌, ◌&&◌, ◌||◌, refl, sym, ap, ◌∙◌, arith, eq-eqb, eqb-true, ne_eqb, inl, inr, subst, List, [], ◌∷◌, and_from, and_parts, both_ways, not-true, not-false, or_cases, or_left, same_tests, bit, Within, Set, mem, pair_set, union}
+use Rattle.graph_core.proofs.from_counting.Common.{◌≡◌, ◌≢◌, ◌↔◌, ℕ, ◌≤◌, ◌+◌, Bool, true, false, cond, ◌==◌, ◌&&◌, ◌||◌, refl, sym, ap, ◌∙◌, arith, eq-eqb, eqb-true, ne_eqb, inl, inr, subst, List, [], ◌∷◌, and_from, and_parts, both_ways, not-true, not-false, or_cases, or_left, same_tests, bit, Within, Set, mem, pair_set, union}
 use Rattle.graph_core.proofs.Common.{has_perfect_found, has_perfect_says, Graph, IsGraph, first_end, has_perfect, second_end, size, HasPerfect}
-use Rattle.match_core.specs.Common.{are_partners}
+use Rattle.two_ears.specs.from_match_core.Common.{are_partners}
 use Rattle.ear_core.proofs.AddedEars.{even_on, new-met}
 use Rattle.ear_core.proofs.EngineGraphs.{asked-perfect}
 use Rattle.ear_core.proofs.LoneMatchings.{ends-differ}

@@ -1,10 +1,10 @@
 -- The builder step by step. An edge off the stage leads out of it as long as one is left; a step
 -- of ears that hold the mates of their vertices keeps this of the stage; and steps that go on
 -- from a stage make a list with those before.
-use Rattle.counting.proofs.Common.{◌≡◌, ℕ, ◌+◌, ◌≤◌, Bool, true, false, refl, sym, ap, ◌∙◌, arith, ◌&&◌, ◌||◌, not, eq-eqb, inl, inr, subst, [], ◌∷◌, ◌++◌, List, Result, IfOk, append_assoc, fun_ext, true_from_ne_false, cases_Bool, both_ways, true≢false, false_from_ne_true, or_left, or_right, or_cases, count_complement, AllByRecursion, count, Within, mem, IsIn, Set, none, singleton, complement}
-use Rattle.barrier_kit.proofs.Common.{cut_edge}
+use Rattle.graph_core.proofs.from_counting.Common.{◌≡◌, ℕ, ◌+◌, ◌≤◌, Bool, true, false, refl, sym, ap, ◌∙◌, arith, ◌&&◌, ◌||◌, not, eq-eqb, inl, inr, subst, [], ◌∷◌, ◌++◌, List, Result, IfOk, append_assoc, fun_ext, true_from_ne_false, cases_Bool, both_ways, true≢false, false_from_ne_true, or_left, or_right, or_cases, count_complement, AllByRecursion, count, Within, mem, IsIn, Set, none, singleton, complement}
+use Rattle.two_ears.proofs.from_barrier_kit.Common.{cut_edge}
 use Rattle.graph_core.proofs.Common.{IsCovered, Graph, size, first_end, second_end, IsGraph, IsMultigraph, HasPerfect, Allowed}
-use Rattle.match_core.specs.Common.{MatchingValue, edges_of}
+use Rattle.two_ears.specs.from_match_core.Common.{MatchingValue, edges_of}
 use Rattle.ear_core.specs.Common.{mate, IsPerfectRows, row_edge, KeepsMates, IsMatedEar, AreMatedEars, AreCandidates, IsChosen, PlainEar, PlainStep, one, two, next_stage, IsStep, AreSteps, IsSingle, FitsStep, PlainEars, FitsEars, HasEdges, IsEarList, trail, IsEar, odds, is_met, IsStage, with_edges}
 use Rattle.ear_core.proofs.EngineGraphs.{ends-met}
 use Rattle.ear_core.proofs.FirstStage.{one-ends, step-adds}

@@ -1,6 +1,6 @@
 -- Walking along an ear edge by edge, with the vertices passed at hand: where it goes astray.
 -- Idea: one step of the walk, with a case for each thing that can be wrong at the next edge.
-use Rattle.counting.proofs.Common.{◌≡◌, ℕ, true, false, ◌==◌, ◌&&◌, ◌||◌, not, Bool, eq-eqb, sym, ap, ◌∙◌, arith, [], ◌∷◌, List, length, Some, None, eqb-true, refl, fun_ext, true≢false, Within, Set}
+use Rattle.graph_core.proofs.from_counting.Common.{◌≡◌, ℕ, true, false, ◌==◌, ◌&&◌, ◌||◌, not, Bool, eq-eqb, sym, ap, ◌∙◌, arith, [], ◌∷◌, List, length, Some, None, eqb-true, refl, fun_ext, true≢false, Within, Set}
 use Rattle.graph_core.proofs.Common.{Graph, size}
 use Rattle.ear_core.specs.Common.{follows, other_end, astray}
 use Rattle.ear_core.proofs.Walking.{joins, in_range}

@@ -1,6 +1,6 @@
 -- A step whose tests pass and whose edges are all allowed makes a stage; the least of its edges
 -- that is not allowed is that of the stage.
-use Rattle.counting.proofs.Common.{◌≡◌, ℕ, true, false, List, All, get_or, Option, Some, None, IfSome, subst, arith, fun_ext, cases_Bool, or_left, or_right, or_parts, or_from, both_ways, false_from_ne_true, mem-item, Within, mem, Set, none}
+use Rattle.graph_core.proofs.from_counting.Common.{◌≡◌, ℕ, true, false, List, All, get_or, Option, Some, None, IfSome, subst, arith, fun_ext, cases_Bool, or_left, or_right, or_parts, or_from, both_ways, false_from_ne_true, mem-item, Within, mem, Set, none}
 use Rattle.graph_core.proofs.Common.{Graph, size, IsGraph}
 use Rattle.ear_core.specs.Common.{PlainStep, one, two, next_stage, FitsStep, odds, step_fault, IsLeastUnallowed, Settled, IsStage, AllowedBy, ear_of, plain_step}
 use Rattle.ear_core.specs.declared.ears.Ear.{Ear}

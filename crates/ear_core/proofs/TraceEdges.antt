@@ -1,7 +1,7 @@
 -- How often do the edges of a trace meet a vertex? The odd ones meet each vertex of the trace
 -- once, and the even ones each but its two ends; the degree of a list of different edges is the
 -- number of their ends.
-use Rattle.counting.proofs.Common.{◌≡◌, ℕ, suc, ◌+◌, ◌*◌, ◌≤◌, true, false, ◌==◌, refl, sym, ap, ap₂, arith, ◌||◌, not, eq-eqb, ne_eqb, eqb-true, ◌⊎◌, inl, inr, subst, [], ◌∷◌, List, length, cases_eq, cases_Bool, true≢false, false_from_ne_true, not-false, or_left, or_right, or_cases, total_congr, total_add, total_le, total_none, bit, Within, is_odd, mem, times, Set, none, put}
+use Rattle.graph_core.proofs.from_counting.Common.{◌≡◌, ℕ, suc, ◌+◌, ◌*◌, ◌≤◌, true, false, ◌==◌, refl, sym, ap, ap₂, arith, ◌||◌, not, eq-eqb, ne_eqb, eqb-true, ◌⊎◌, inl, inr, subst, [], ◌∷◌, List, length, cases_eq, cases_Bool, true≢false, false_from_ne_true, not-false, or_left, or_right, or_cases, total_congr, total_add, total_le, total_none, bit, Within, is_odd, mem, times, Set, none, put}
 use Rattle.ear_core.specs.Common.{other_end, Follow, trail, last_vertex, odds, evens, is_met}
 use Rattle.graph_core.proofs.Common.{degree_congr, ends_of, degree_sum, degree_put, Graph, size, first_end, second_end, degree}
 

@@ -1,6 +1,6 @@
 -- Is a trace a walk? Yes, by its edges from the start to each of its vertices; and a walk by some
 -- edges is one by more.
-use Rattle.counting.proofs.Common.{◌≡◌, ℕ, true, ◌==◌, refl, ◌&&◌, ◌||◌, eq-eqb, eqb-true, inl, inr, [], ◌∷◌, List, arith, and_parts, and_from, or_left, or_right, or_cases, true_some, some_true, mem, Set}
+use Rattle.graph_core.proofs.from_counting.Common.{◌≡◌, ℕ, true, ◌==◌, refl, ◌&&◌, ◌||◌, eq-eqb, eqb-true, inl, inr, [], ◌∷◌, List, arith, and_parts, and_from, or_left, or_right, or_cases, true_some, some_true, mem, Set}
 use Rattle.ear_core.specs.Common.{other_end, Follow, trail, adjacent_by}
 use Rattle.graph_core.proofs.Common.{Graph, size, first_end, second_end, has_ends, Walk}
 

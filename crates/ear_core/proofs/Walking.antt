@@ -2,7 +2,7 @@
 -- ear goes on as a path if each edge is at the vertex reached, the next vertex is new, and
 -- only the last may be the first.
 use Rattle.std.proofs.Common.{◌≡◌, ℕ, suc, Bool, true, false, ◌==◌, refl, sym, ap, ap₂, ◌∙◌, arith, ◌&&◌, ◌||◌, not, nat_le, eqb-true, le-leb, [], ◌∷◌, List, length, All}
-use Rattle.counting.proofs.Common.{fun_ext, true≢false, or_assoc_back, Within, mem, Set, none}
+use Rattle.graph_core.proofs.from_counting.Common.{fun_ext, true≢false, or_assoc_back, Within, mem, Set, none}
 use Rattle.graph_core.proofs.Common.{Graph, size, first_end, second_end}
 use Rattle.ear_core.specs.Common.{other_end, trail, last_vertex, is_path, follows, front, inner_vertices, repeats, no_member}
 

@@ -1,7 +1,7 @@
 -- A stage that holds every edge and meets every vertex has the walks and the perfect matchings of
 -- the graph itself, so it is matching covered exactly when the graph is. An ear list leads to
 -- such a stage if no vertex is isolated.
-use Rattle.counting.proofs.Common.{◌≡◌, ℕ, true, not, ◌==◌, List, [], ◌∷◌, refl, sym, ap, ◌∙◌, arith, rules, and_from, and_parts, true≢false, some_true, true_some, Within, Set, everything, none, singleton}
+use Rattle.graph_core.proofs.from_counting.Common.{◌≡◌, ℕ, true, not, ◌==◌, List, [], ◌∷◌, refl, sym, ap, ◌∙◌, arith, rules, and_from, and_parts, true≢false, some_true, true_some, Within, Set, everything, none, singleton}
 use Rattle.graph_core.proofs.Common.{degree_congr, IsCovered, Graph, IsMultigraph, has_ends, size, Joined, Walk, adjacent}
 use Rattle.ear_core.proofs.Stepping.{covered-allowed, covered-edge}
 use Rattle.ear_core.specs.Common.{AreSteps, IsEarList, PlainEars, PlainStep, next_stage, IsStage, adjacent_by, is_met}

@@ -3,10 +3,10 @@
 -- stage comes again.
 -- Stated by: ear_core. Used by: theorems.
 use Rattle.std.specs.Prelude.{◌≡◌, ◌≢◌, ◌⊎◌, ◌≤◌, ℕ, true, false, List, [], ◌∷◌, ◌++◌, ◌==◌, ◌&&◌, ◌||◌, not, cond, length}
-use Rattle.counting.specs.Common.{Within, is_odd, IsIn, mem, times, Set, none, pair_set}
+use Rattle.graph_core.specs.from_counting.Common.{Within, is_odd, IsIn, mem, times, Set, none, pair_set}
 use Rattle.graph_core.specs.Common.{Graph, first_end, second_end, IsPerfect}
-use Rattle.match_core.specs.Common.{MatchingValue, IsOf, edges_of}
-use Rattle.match_core.specs.declared.matching.MatchRow.{MatchRow}
+use Rattle.two_ears.specs.from_match_core.Common.{MatchingValue, IsOf, edges_of}
+use Rattle.two_ears.specs.from_match_core.declared.matching.MatchRow.{MatchRow}
 use Rattle.two_ears.specs.VertexPairs.{pairs_at, in_pairs}
 use Rattle.ear_core.specs.EarLists.{PlainEar, PlainStep, one, two}
 use Rattle.ear_core.specs.Ears.{other_end, Follow, trail, last_vertex, IsEar}

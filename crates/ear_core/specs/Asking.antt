@@ -1,7 +1,7 @@
 -- How the matching engine is asked whether ears serve, and what is found.
 -- Stated by: ear_core. Used by: theorems.
 use Rattle.std.specs.Prelude.{◌≡◌, ◌⊎◌, ◌↔◌, ℕ, List, [], ◌∷◌, not}
-use Rattle.counting.specs.Common.{Within, complement, count, mem, IsIn, Set, union}
+use Rattle.graph_core.specs.from_counting.Common.{Within, complement, count, mem, IsIn, Set, union}
 use Rattle.graph_core.specs.Common.{Graph, size, HasPerfect}
 use Rattle.ear_core.specs.AlternatingEars.{Serves, ends_of_ear}
 use Rattle.ear_core.specs.EarLists.{PlainEar, PlainStep, two}

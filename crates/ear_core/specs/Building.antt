@@ -2,9 +2,9 @@
 -- Stated by: ear_core.
 use Rattle.std.specs.Prelude.{◌≡◌, ◌++◌, ℕ, List, map}
 use Rattle.std.specs.List.{AllByRecursion}
-use Rattle.counting.specs.Common.{Set, pair_set}
+use Rattle.graph_core.specs.from_counting.Common.{Set, pair_set}
 use Rattle.graph_core.specs.Common.{Graph, IsBipartite}
-use Rattle.match_search.specs.Common.{marks}
+use Rattle.two_ears.specs.from_match_search.Common.{marks}
 use Rattle.ear_core.specs.AlternatingEars.{KeepsMates, Serves}
 use Rattle.ear_core.specs.EarLists.{AreForced, AreNeeded, AreSteps, IsForced, IsNeeded, IsSingle, IsStep, PlainStep, next_stage}
 use Rattle.ear_core.specs.MarkedStages.{IsMarked}

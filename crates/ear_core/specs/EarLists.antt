@@ -5,7 +5,7 @@
 -- Used by: bench_outcomes, bench_top.
 use Rattle.std.specs.Prelude.{◌≡◌, ◌<◌, ℕ, true, List, [], ◌∷◌, All, length}
 use Rattle.std.specs.List.{AllByRecursion}
-use Rattle.counting.specs.Common.{Within, Set, singleton}
+use Rattle.graph_core.specs.from_counting.Common.{Within, Set, singleton}
 use Rattle.graph_core.specs.Common.{Graph, size}
 use Rattle.ear_core.specs.Stages.{IsStage, with_edges}
 use Rattle.ear_core.specs.Ears.{IsEar, IsEarPair}

@@ -2,7 +2,7 @@
 -- at marks alone.
 -- Stated by: ear_core. Used by: bench_outcomes, theorems.
 use Rattle.std.specs.Prelude.{◌≡◌, ℕ, Bool, true, false, List, [], ◌∷◌, ◌==◌, nat_le, ◌&&◌, ◌||◌, not, length, Option, Some, None, if◌then◌else◌}
-use Rattle.counting.specs.Common.{is_odd, Set, mem}
+use Rattle.graph_core.specs.from_counting.Common.{is_odd, Set, mem}
 use Rattle.graph_core.specs.Common.{Graph, size, first_end, second_end}
 use Rattle.ear_core.specs.Stages.{is_met}
 use Rattle.ear_core.specs.Ears.{other_end, trail, last_vertex}

@@ -2,7 +2,7 @@
 -- which f meets.
 -- Stated by: ear_core, theorems.
 use Rattle.std.specs.Prelude.{◌≡◌, ◌≢◌, ℕ, ◌≤◌, true, false, List, [], ◌∷◌, ◌==◌, ◌||◌, cond, length}
-use Rattle.counting.specs.Common.{Within, is_odd, Set, mem, times}
+use Rattle.graph_core.specs.from_counting.Common.{Within, is_odd, Set, mem, times}
 use Rattle.graph_core.specs.Common.{Graph, size, first_end, second_end}
 use Rattle.ear_core.specs.Stages.{is_met}
 

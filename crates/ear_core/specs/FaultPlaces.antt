@@ -1,7 +1,7 @@
 -- Where the fault of a step shows: at which of its two ears, and at which edge of that ear first.
 -- Stated by: ear_core. Used by: bench_outcomes.
 use Rattle.std.specs.Prelude.{ℕ, ◌-◌, List, [], ◌∷◌, ◌==◌, ◌&&◌, ◌||◌, not, length, slice_get, is_some, Option, Some, None, if◌then◌else◌, find, option_and_then}
-use Rattle.counting.specs.Common.{Set, mem, none, singleton, union}
+use Rattle.graph_core.specs.from_counting.Common.{Set, mem, none, singleton, union}
 use Rattle.graph_core.specs.Common.{Graph}
 use Rattle.refusals.specs.declared.places.EarOfTwo.TheVariants.{First, Second}
 use Rattle.refusals.specs.declared.places.EarPlace.{EarPlace}

@@ -2,9 +2,9 @@
 -- matching that keeps the stage such a one makes a single ear, and all single ears are found so.
 -- Stated by: ear_core. Used by: theorems.
 use Rattle.std.specs.Prelude.{◌≡◌, ◌≢◌, ◌⊎◌, ℕ, true, false, ◌&&◌, not, cond}
-use Rattle.counting.specs.Common.{Within, Set, complement, none, pair_set, union}
+use Rattle.graph_core.specs.from_counting.Common.{Within, Set, complement, none, pair_set, union}
 use Rattle.graph_core.specs.Common.{Graph, size, HasPerfect, IsPerfect}
-use Rattle.match_core.specs.Common.{has_end_in}
+use Rattle.two_ears.specs.from_match_core.Common.{has_end_in}
 use Rattle.ear_core.specs.Stages.{adjacent_by, is_met}
 
 -- where edge e must have no end: an edge of f at u and v, another one at other vertices of f

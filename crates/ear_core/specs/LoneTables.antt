@@ -2,9 +2,9 @@
 -- of its vertices alone.
 -- Stated by: ear_core.
 use Rattle.std.specs.Prelude.{◌≡◌, ℕ, List, ◌&&◌, ◌||◌, length}
-use Rattle.counting.specs.Common.{Within, Set, complement, item, mem, some}
+use Rattle.graph_core.specs.from_counting.Common.{Within, Set, complement, item, mem, some}
 use Rattle.graph_core.specs.Common.{Graph, HasPerfect}
-use Rattle.match_core.specs.Common.{ArePartners}
+use Rattle.two_ears.specs.from_match_core.Common.{ArePartners}
 use Rattle.ear_core.specs.Stages.{adjacent_by, is_met}
 use Rattle.ear_core.specs.declared.lone_tables.Tables.{Tables}
 

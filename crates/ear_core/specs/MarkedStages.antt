@@ -1,9 +1,9 @@
 -- The marks of a stage, with the vertices that it meets.
 -- Stated by: ear_core.
 use Rattle.std.specs.Prelude.{◌≡◌, ◌+◌, ℕ, length}
-use Rattle.counting.specs.Common.{mem}
+use Rattle.graph_core.specs.from_counting.Common.{mem}
 use Rattle.graph_core.specs.Common.{Graph, size}
-use Rattle.match_search.specs.Common.{marks}
+use Rattle.two_ears.specs.from_match_search.Common.{marks}
 use Rattle.ear_core.specs.Stages.{is_met}
 use Rattle.ear_core.specs.declared.marked.Marked.{Marked}
 

@@ -1,9 +1,9 @@
 -- What is kept of a stage while a list of ears is checked.
 -- Stated by: ear_core.
 use Rattle.std.specs.Prelude.{◌≡◌, ◌+◌, ℕ, List, length, true}
-use Rattle.counting.specs.Common.{Set, none}
+use Rattle.graph_core.specs.from_counting.Common.{Set, none}
 use Rattle.graph_core.specs.Common.{Graph}
-use Rattle.match_search.specs.Common.{HasMates, numbers}
+use Rattle.two_ears.specs.from_match_search.Common.{HasMates, numbers}
 use Rattle.ear_core.specs.Asking.{IsAsked}
 use Rattle.ear_core.specs.StagePartners.{ArePartnersOn}
 use Rattle.ear_core.specs.declared.asking.Asked.{Asked}

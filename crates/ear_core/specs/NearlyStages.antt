@@ -2,7 +2,7 @@
 -- most every other edge of the ears is left to ask.
 -- Stated by no contract. Used by: ear_core, theorems.
 use Rattle.std.specs.Prelude.{◌≡◌, ℕ, true, false, List, [], ◌∷◌}
-use Rattle.counting.specs.Common.{Within, Set}
+use Rattle.graph_core.specs.from_counting.Common.{Within, Set}
 use Rattle.graph_core.specs.Common.{Graph, size, Walk}
 use Rattle.ear_core.specs.Stages.{is_met, adjacent_by, IsPerfectOf, AllowedBy}
 

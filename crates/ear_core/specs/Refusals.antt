@@ -3,7 +3,7 @@
 -- are left.
 -- Stated by: ear_core, bench_reports. Used by: bench_outcomes, theorems.
 use Rattle.std.specs.Prelude.{◌≡◌, ◌⊎◌, ◌↔◌, ℕ, ◌+◌, true, List, [], ◌∷◌, Option, Some, None}
-use Rattle.counting.specs.Common.{Set, singleton, IsLeastWithout}
+use Rattle.graph_core.specs.from_counting.Common.{Set, singleton, IsLeastWithout}
 use Rattle.graph_core.specs.Common.{Graph, size}
 use Rattle.ear_core.specs.Stages.{IsStage, AllowedBy}
 use Rattle.ear_core.specs.EarLists.{PlainStep, one, two, PlainEars, next_stage, AreSteps, IsEarList}

@@ -2,7 +2,7 @@
 -- which get numbers of their own in the order of those in g.
 -- Stated by: ear_core. Used by: theorems.
 use Rattle.std.specs.Prelude.{◌≡◌, ◌<◌, ◌≤◌, ℕ, zero, suc, true, List, [], ◌∷◌, ◌++◌, ◌&&◌, ◌||◌, ◌==◌, cond, Option, Some, None}
-use Rattle.counting.specs.Common.{count, Within, Set}
+use Rattle.graph_core.specs.from_counting.Common.{count, Within, Set}
 use Rattle.graph_core.specs.Common.{Graph, size, first_end, second_end}
 use Rattle.ear_core.specs.Stages.{AllowedBy}
 

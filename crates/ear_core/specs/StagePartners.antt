@@ -2,7 +2,7 @@
 -- Plummer, "Matching Theory", chapter 5).
 -- Stated by: ear_core.
 use Rattle.std.specs.Prelude.{◌≡◌, ◌≢◌, ℕ, true}
-use Rattle.counting.specs.Common.{Within, Set, pair_set}
+use Rattle.graph_core.specs.from_counting.Common.{Within, Set, pair_set}
 use Rattle.graph_core.specs.Common.{Graph}
 use Rattle.ear_core.specs.AlternatingEars.{Serves}
 use Rattle.ear_core.specs.Stages.{is_met}

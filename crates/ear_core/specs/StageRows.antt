@@ -3,9 +3,9 @@
 -- partners (Kotzig; Lovász and Plummer, "Matching Theory", chapter 5).
 -- Stated by: ear_core.
 use Rattle.std.specs.Prelude.{◌≡◌, ℕ, Bool, List, false, length, true}
-use Rattle.counting.specs.Common.{Within, Set, item, mem}
+use Rattle.graph_core.specs.from_counting.Common.{Within, Set, item, mem}
 use Rattle.graph_core.specs.Common.{Graph}
-use Rattle.match_core.specs.Common.{are_partners}
+use Rattle.two_ears.specs.from_match_core.Common.{are_partners}
 use Rattle.ear_core.specs.MatchedStages.{NamesMatching}
 use Rattle.ear_core.specs.declared.asking.Asked.{Asked}
 

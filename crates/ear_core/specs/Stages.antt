@@ -3,7 +3,7 @@
 -- chapter 5).
 -- Stated by: ear_core, theorems.
 use Rattle.std.specs.Prelude.{◌≡◌, ℕ, Bool, true, false, List, ◌==◌, not, ◌&&◌, ◌||◌}
-use Rattle.counting.specs.Common.{Within, Set, some, mem}
+use Rattle.graph_core.specs.from_counting.Common.{Within, Set, some, mem}
 use Rattle.graph_core.specs.Common.{Graph, size, degree, has_ends, Walk}
 
 -- an edge of f is at v

@@ -1,7 +1,7 @@
 -- What is answered of a step.
 -- Stated by: ear_core.
 use Rattle.std.specs.Prelude.{◌≡◌, ℕ, Option, Some, None}
-use Rattle.counting.specs.Common.{Set}
+use Rattle.graph_core.specs.from_counting.Common.{Set}
 use Rattle.graph_core.specs.Common.{Graph}
 use Rattle.ear_core.specs.EarLists.{PlainStep, next_stage}
 use Rattle.ear_core.specs.Refusals.{IsStepRefused, step_fault}

@@ -1,14 +1,14 @@
 //! The graph of a stage, of which the matching engine is asked.
 ghost use Rattle.std.specs.Prelude.{◌≡◌, ◌+◌, ℕ, true, false, length, IfOk};
-ghost use Rattle.counting.specs.Common.{mem, Set};
+ghost use Rattle.graph_core.specs.from_counting.Common.{mem, Set};
 ghost use Rattle.graph_core.specs.Common.{Graph, size, with_ends};
-ghost use Rattle.match_search.specs.Common.{marks};
+ghost use Rattle.two_ears.specs.from_match_search.Common.{marks};
 ghost use Rattle.ear_core.specs.Common.{Serves, IsAsked, listed, is_met};
 
 use graph_core::MultiGraph;
-use match_core::perfect_without;
+use graph_core::vset_core::VSet;
 use std::alloc::{AllocError as Memory, Global};
-use vset_core::VSet;
+use two_ears::match_core::perfect_without;
 
 /// The graph of the marked edges, on all vertices.
 pub fn marked_graph(alloc: Global, g: &MultiGraph, mark: &[bool]) -> Result<MultiGraph, Memory>

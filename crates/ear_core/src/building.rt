@@ -1,10 +1,10 @@
 //! The builder of ear lists.
 ghost use Rattle.std.specs.Prelude.{◌≡◌, ◌+◌, ◌≤◌, ◌&&◌, ◌||◌, ℕ, true, false, not, length, map, IfOk, IfSome, IfNone, OnOk};
 ghost use Rattle.std.specs.List.{AllByRecursion};
-ghost use Rattle.counting.specs.Common.{Set, Within, complement, count, mem};
+ghost use Rattle.graph_core.specs.from_counting.Common.{Set, Within, complement, count, mem};
 ghost use Rattle.graph_core.specs.Common.{IsCovered, size, first_end, second_end, IsBipartite};
-ghost use Rattle.match_core.specs.Common.{edges_of};
-ghost use Rattle.match_search.specs.Common.{marks};
+ghost use Rattle.two_ears.specs.from_match_core.Common.{edges_of};
+ghost use Rattle.two_ears.specs.from_match_search.Common.{marks};
 ghost use Rattle.ear_core.specs.Common.{IsPerfectRows, KeepsMates, row_edge, AreForced, AreNeeded, AreSteps, IsAsked, IsBuilt, IsEarList, IsForced, IsMarked, IsNeeded, IsSingle, IsStep, IsUnrefinable, next_stage, FitsEars, FitsStep, HasEdges, TakesSingles, LeadsAtTwo, is_met, IsStage, ears_of, step_of};
 
 use crate::built::Built;
@@ -15,12 +15,12 @@ use crate::marked::Marked;
 use crate::outer_table::OuterTable;
 use crate::stage::Stage;
 use crate::tracing::collect;
-use allowed_edges::perfect_with_edge;
 use graph_core::MultiGraph;
-use graph_facts::Covered;
-use match_core::Matching;
+use graph_core::vset_core::VSet;
 use std::alloc::{AllocError as Memory, Global};
-use vset_core::VSet;
+use two_ears::allowed_edges::perfect_with_edge;
+use two_ears::graph_facts::Covered;
+use two_ears::match_core::Matching;
 
 /// An ear list of a matching covered graph, from its edge 1. Two ears are added at once only at a
 /// stage from which no ear list goes on by a single ear; neither of the two alone keeps the stage

@@ -1,8 +1,8 @@
 //! A stage that is marked and the steps that led to it, and how single edges are added.
 ghost use Rattle.std.specs.Prelude.{◌≡◌, ◌+◌, ◌≤◌, ℕ, [], ◌∷◌, false, true, IfOk, IfSome, OnOk};
-ghost use Rattle.counting.specs.Common.{Set, Within, complement, count};
+ghost use Rattle.graph_core.specs.from_counting.Common.{Set, Within, complement, count};
 ghost use Rattle.graph_core.specs.Common.{first_end, second_end, size};
-ghost use Rattle.match_search.specs.Common.{marks};
+ghost use Rattle.two_ears.specs.from_match_search.Common.{marks};
 ghost use Rattle.ear_core.specs.Common.{ArePartnersOn, FitsStep, GoesOn, IsAsked, IsBuilt, IsFilled, IsMarked, next_stage, one, step_of};
 
 use crate::ears::{Ear, Step, Steps};

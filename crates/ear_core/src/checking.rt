@@ -2,7 +2,7 @@
 ghost use Rattle.std.specs.Prelude.{◌≡◌, map, [], true, IfOk};
 ghost use Rattle.std.specs.List.{AllByRecursion};
 ghost use Rattle.graph_core.specs.Common.{IsCovered, size};
-ghost use Rattle.match_search.specs.Common.{marks};
+ghost use Rattle.two_ears.specs.from_match_search.Common.{marks};
 ghost use Rattle.ear_core.specs.Common.{FitsEars, FitsStep, AcceptsList, IsAskedBefore, IsJudged, IsMarked, IsStage, RefusesList, ears_of, refusal_of, step_of};
 
 use crate::ears::{EarList, Step};
@@ -11,8 +11,8 @@ use crate::marked::Marked;
 use crate::stage::Stage;
 use crate::steps::take_step;
 use graph_core::MultiGraph;
-use graph_facts::Covered;
 use std::alloc::{AllocError as Memory, Global};
+use two_ears::graph_facts::Covered;
 
 /// Whether `list` is an ear list of `g`, and if it is not one, its first refusal: steps are
 /// numbered from 1, and at a step its first ear is tested by 1 to 5 of `EarWhy` in order, then

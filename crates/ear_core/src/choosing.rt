@@ -1,18 +1,18 @@
 //! The choice of a step among ears that two perfect matchings make.
 ghost use Rattle.std.specs.Prelude.{◌≡◌, ℕ, map, IfOk, IfSome, IfNone};
 ghost use Rattle.std.specs.List.{AllByRecursion};
-ghost use Rattle.counting.specs.Common.{Within, mem, Set};
+ghost use Rattle.graph_core.specs.from_counting.Common.{Within, mem, Set};
 ghost use Rattle.graph_core.specs.Common.{size, IsBipartite};
-ghost use Rattle.match_search.specs.Common.{marks};
+ghost use Rattle.two_ears.specs.from_match_search.Common.{marks};
 ghost use Rattle.ear_core.specs.Common.{ends_of_ear, AreCandidates, AreEars, IsChosen, IsAsked, FindsAlone, FindsBeside, FindsTwo, NoneServes, NoneServesBeside, NoTwoServe, next_stage, IsStep, IsSingle, IsNeeded, FitsEar, IsStage, ear_of, last_vertex, step_of};
 
 use crate::asking::{Asked, serves};
 use crate::ears::{Ear, Step};
 use crate::stage::Stage;
 use crate::tracing::across;
+use graph_core::vset_core::VSet;
 use graph_core::{MultiGraph, Numbers};
 use std::alloc::{AllocError as Memory, Global};
-use vset_core::VSet;
 
 // A copy of an ear.
 fn copy_of(alloc: Global, ear: &Ear) -> Result<Ear, Memory>

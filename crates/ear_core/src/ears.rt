@@ -1,7 +1,7 @@
 //! Lists of ears.
 
 use graph_core::Numbers;
-use listed::Listed;
+use graph_core::listed::Listed;
 
 /// An ear: the vertex where it begins, and its edges in order.
 #[derive(Drop)]

@@ -1,9 +1,9 @@
 //! Where the fault of a step shows.
 ghost use Rattle.std.specs.Prelude.{◌≡◌, ℕ, true, map, None, is_some, IfErr, IfOk};
 ghost use Rattle.std.specs.List.{AllByRecursion};
-ghost use Rattle.counting.specs.Common.{Set, Within, mem};
+ghost use Rattle.graph_core.specs.from_counting.Common.{Set, Within, mem};
 ghost use Rattle.graph_core.specs.Common.{Graph, size};
-ghost use Rattle.match_search.specs.Common.{marks};
+ghost use Rattle.two_ears.specs.from_match_search.Common.{marks};
 ghost use Rattle.ear_core.specs.Common.{FitsEar, FitsEars, FitsStep, IsMarked, ear_fault, ear_of, ears_of, edge_of_fault, entering, fault_edge, fault_place, inner_vertices, is_met, nowhere, place_from, place_in_step, place_of_two, step_of, why_of, wrong_end};
 
 use crate::ears::{Ear, EarList, Step};
@@ -13,9 +13,9 @@ use crate::marked::Marked;
 use crate::paths::{EarPath, path_of};
 use crate::tracing::across;
 use graph_core::MultiGraph;
+use graph_core::vset_core::{MOST_VERTICES, VSet};
 use refusals::{EarOfTwo, EarPlace};
 use std::alloc::{AllocError as Memory, Global};
-use vset_core::{MOST_VERTICES, VSet};
 
 /// Where the fault of a step of `list` shows: at which of its two ears, and at which edge of that
 /// ear first. Steps are counted from 1. If no ear of the step is at fault, the place names neither.

@@ -1,9 +1,9 @@
 //! The tests of an ear on a stage, by a row of marks.
 ghost use Rattle.std.specs.Prelude.{◌≡◌, ◌+◌, ◌<◌, ◌||◌, ◌&&◌, ◌==◌, ℕ, true, false, not, length, All, Some, None, IfOk, IfErr, List};
 ghost use Rattle.std.specs.List.{find};
-ghost use Rattle.counting.specs.Common.{Within, is_odd, mem};
+ghost use Rattle.graph_core.specs.from_counting.Common.{Within, is_odd, mem};
 ghost use Rattle.graph_core.specs.Common.{size};
-ghost use Rattle.match_search.specs.Common.{marks};
+ghost use Rattle.two_ears.specs.from_match_search.Common.{marks};
 ghost use Rattle.ear_core.specs.Common.{IsMarked, ear_fault, inner_vertices, has_new_edges, no_member, why_of};
 
 use crate::ears::Ear;
@@ -11,7 +11,7 @@ use crate::judgement::EarWhy;
 use crate::marked::Marked;
 use crate::paths::{EarPath, path_of};
 use graph_core::MultiGraph;
-use vset_core::{MOST_VERTICES, VSet};
+use graph_core::vset_core::{MOST_VERTICES, VSet};
 
 // Whether `n` is among the numbers.
 fn holds(numbers: &[u32], n: u32) -> bool

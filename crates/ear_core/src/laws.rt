@@ -1,6 +1,6 @@
 //! Laws of ear lists. Each is the contract of a function that does nothing.
 ghost use Rattle.std.specs.Prelude.{◌≡◌, ◌≢◌, ◌⊎◌, ◌↔◌, ℕ, false, true, List, [], ◌∷◌, None, Some};
-ghost use Rattle.counting.specs.Common.{Within, Set, everything, mem, pair_set};
+ghost use Rattle.graph_core.specs.from_counting.Common.{Within, Set, everything, mem, pair_set};
 ghost use Rattle.graph_core.specs.Common.{IsCovered, Graph, IsGraph, IsMultigraph, first_end, second_end, size, HasPerfect};
 ghost use Rattle.ear_core.specs.Common.{ArePartnersOn, LeadsAtTwo, LeadsOff, PairsAll, IsPerfectBy, is_open, Serves, IsStage, AllowedBy, is_met, PlainEar, PlainEars, PlainStep, next_stage, one, IsEarList, IsStep, AreSteps, step_fault, IsFirstRefusal, IsEar, IsEarPair, Passes, PlainWhy, ear_fault, even_length, fault_edge, inner_vertices, with_edges};
 

@@ -1,19 +1,19 @@
 //! The search for a perfect matching that leads out of a stage at two of its vertices alone.
 ghost use Rattle.std.specs.Prelude.{◌≡◌, ◌+◌, ◌<◌, ℕ, length, true, IfOk, IfSome, IfNone};
-ghost use Rattle.counting.specs.Common.{Within, mem, rising_list, Set, pair_set};
+ghost use Rattle.graph_core.specs.from_counting.Common.{Within, mem, rising_list, Set, pair_set};
 ghost use Rattle.graph_core.specs.Common.{size};
-ghost use Rattle.match_core.specs.Common.{edges_of};
-ghost use Rattle.match_search.specs.Common.{marks};
+ghost use Rattle.two_ears.specs.from_match_core.Common.{edges_of};
+ghost use Rattle.two_ears.specs.from_match_search.Common.{marks};
 ghost use Rattle.ear_core.specs.Common.{AreTables, IsAsked, IsPerfectBy, IsPerfectRows, KeepsMates, LeadsAtTwo, by_rank, is_met, is_open, row_edge};
 
 use crate::asking::marked_graph;
 use crate::lone_tables::{Tables, lone_with, tables_of};
 use crate::outer_table::OuterTable;
 use crate::stage::Stage;
+use graph_core::vset_core::VSet;
 use graph_core::{MultiGraph, Numbers};
-use match_core::{Matching, perfect_with, perfect_without};
 use std::alloc::{AllocError as Memory, Global};
-use vset_core::VSet;
+use two_ears::match_core::{Matching, perfect_with, perfect_without};
 
 // Whether edge `e` may lie in a perfect matching that leads out of the stage at the two vertices
 // of `pair` alone. The stage of the marked edges meets the vertices `met`.

@@ -6,17 +6,17 @@
 //! perfect matching of the rest without the other ends of these edges. So the partners on the
 //! stage and those in the rest tell it for every pair.
 ghost use Rattle.std.specs.Prelude.{◌≡◌, ◌≢◌, ◌↔◌, ◌+◌, ◌≤◌, ◌&&◌, ◌||◌, ◌==◌, ℕ, length, not, true, IfOk};
-ghost use Rattle.counting.specs.Common.{Within, mem, Set, complement, item};
+ghost use Rattle.graph_core.specs.from_counting.Common.{Within, mem, Set, complement, item};
 ghost use Rattle.graph_core.specs.Common.{Graph, IsGraph, size};
-ghost use Rattle.match_search.specs.Common.{marks};
+ghost use Rattle.two_ears.specs.from_match_search.Common.{marks};
 ghost use Rattle.ear_core.specs.Common.{AreTables, ArePartnersOn, IsAsked, IsPerfectBy, IsPerfectRows, KeepsMates, adjacent_by, in_rows, is_met, is_open, reached, row_edge};
 
 use crate::outer_table::OuterTable;
 use crate::stage::{Stage, row_of};
+use graph_core::vset_core::{MOST_VERTICES, VSet};
 use graph_core::{Ends, MultiGraph};
-use match_core::{Matching, PartnerTable};
 use std::alloc::{AllocError as Memory, Global};
-use vset_core::{MOST_VERTICES, VSet};
+use two_ears::match_core::{Matching, PartnerTable};
 
 /// The partners in what is left of a graph off a stage, and for each vertex its neighbours by
 /// edges off the stage.

@@ -1,14 +1,14 @@
 //! The marks of a stage, with the vertices that it meets.
 ghost use Rattle.std.specs.Prelude.{◌≡◌, ◌+◌, ◌||◌, ◌==◌, ℕ, length, true, All, IfNone, IfOk, IfSome};
-ghost use Rattle.counting.specs.Common.{IsLeastWithout, Within, mem, singleton};
+ghost use Rattle.graph_core.specs.from_counting.Common.{IsLeastWithout, Within, mem, singleton};
 ghost use Rattle.graph_core.specs.Common.{size};
-ghost use Rattle.match_search.specs.Common.{marks};
+ghost use Rattle.two_ears.specs.from_match_search.Common.{marks};
 ghost use Rattle.ear_core.specs.Common.{FitsStep, IsMarked, next_stage, step_of};
 
 use crate::ears::Step;
 use graph_core::MultiGraph;
+use graph_core::vset_core::VSet;
 use std::alloc::{AllocError as Memory, Global};
-use vset_core::VSet;
 
 /// The marks of the edges of a stage, and the vertices that these edges meet.
 #[derive(Drop)]

@@ -1,16 +1,16 @@
 //! The mates of a matching of a stage, from which the partners of one vertex are one search away.
 ghost use Rattle.std.specs.Prelude.{◌≡◌, ◌≢◌, ◌+◌, ◌<◌, ◌≤◌, ℕ, false, true, length, All, IfOk};
-ghost use Rattle.counting.specs.Common.{Within, mem};
+ghost use Rattle.graph_core.specs.from_counting.Common.{Within, mem};
 ghost use Rattle.graph_core.specs.Common.{size};
-ghost use Rattle.match_search.specs.Common.{marks};
-ghost use Rattle.match_core.specs.Common.{are_partners, edges_of};
+ghost use Rattle.two_ears.specs.from_match_search.Common.{marks};
+ghost use Rattle.two_ears.specs.from_match_core.Common.{are_partners, edges_of};
 ghost use Rattle.ear_core.specs.Common.{IsPerfectRows, NamesMatching, NamesPart};
 
+use graph_core::vset_core::VSet;
 use graph_core::{MOST_EDGES, MultiGraph};
-use match_core::Matching;
-use match_search::{Best, find_best, instance_of, mates_of, missable_beside};
 use std::alloc::{AllocError as Memory, Global};
-use vset_core::VSet;
+use two_ears::match_core::Matching;
+use two_ears::match_search::{Best, find_best, instance_of, mates_of, missable_beside};
 
 /// The mates by the edges of a matching that are on the stage of the marked edges.
 pub fn mates_on(

@@ -1,13 +1,13 @@
 //! The partners in what is left of a graph off the vertices of a stage, for the next stages too.
 ghost use Rattle.std.specs.Prelude.{◌≡◌, IfOk};
-ghost use Rattle.counting.specs.Common.{mem};
-ghost use Rattle.match_core.specs.Common.{ArePartners, IsOf};
+ghost use Rattle.graph_core.specs.from_counting.Common.{mem};
+ghost use Rattle.two_ears.specs.from_match_core.Common.{ArePartners, IsOf};
 
 use graph_core::MultiGraph;
-use match_core::{Matching, PartnerTable, partners};
+use graph_core::vset_core::VSet;
 use std::alloc::{AllocError as Memory, Global};
 use std::marker::Model;
-use vset_core::VSet;
+use two_ears::match_core::{Matching, PartnerTable, partners};
 
 /// The last table of partners in G - X, for a set X of vertices, if one was made: successive stages
 /// often have the same vertices. Contracts see the graph.
@@ -20,9 +20,9 @@ pub struct OuterTable<'g> {
 
 impl<'g> Model for OuterTable<'g> {
     ghost use Rattle.std.specs.Prelude.{IfSome};
-    ghost use Rattle.counting.specs.Common.{mem};
+    ghost use Rattle.graph_core.specs.from_counting.Common.{mem};
     ghost use Rattle.graph_core.specs.Common.{Graph};
-    ghost use Rattle.match_core.specs.Common.{ArePartners};
+    ghost use Rattle.two_ears.specs.from_match_core.Common.{ArePartners};
 
     ghost Value = { Graph };
 

@@ -1,12 +1,12 @@
 //! The vertices along the edges of an ear.
 ghost use Rattle.std.specs.Prelude.{◌≡◌, ◌||◌, ◌==◌, ℕ, true, false, None, All, IfErr, IfNone, IfOk, IfSome};
-ghost use Rattle.counting.specs.Common.{Within, mem, none};
+ghost use Rattle.graph_core.specs.from_counting.Common.{Within, mem, none};
 ghost use Rattle.graph_core.specs.Common.{size, first_end, second_end};
 ghost use Rattle.ear_core.specs.Common.{other_end, last_vertex, is_path, inner_vertices, astray};
 
 use crate::ears::Ear;
 use graph_core::MultiGraph;
-use vset_core::VSet;
+use graph_core::vset_core::VSet;
 
 /// A path, by its inner vertices and its last one.
 #[derive(Clone, Copy)]

@@ -1,18 +1,18 @@
 //! A stage with the partners on it, searched for as far as they are wanted, and once each.
 ghost use Rattle.std.specs.Prelude.{◌≡◌, ◌≢◌, ◌+◌, ◌↔◌, ℕ, false, true, length, IfOk};
-ghost use Rattle.counting.specs.Common.{Within, item, mem, Set};
+ghost use Rattle.graph_core.specs.from_counting.Common.{Within, item, mem, Set};
 ghost use Rattle.graph_core.specs.Common.{Graph, IsGraph, size};
-ghost use Rattle.match_core.specs.Common.{are_partners};
-ghost use Rattle.match_search.specs.Common.{marks};
+ghost use Rattle.two_ears.specs.from_match_core.Common.{are_partners};
+ghost use Rattle.two_ears.specs.from_match_search.Common.{marks};
 ghost use Rattle.ear_core.specs.Common.{ArePartnersOn, HasClasses, HaveRow, IsAsked, IsPerfectRows, IsStage, NamesMatching, is_met};
 
 use crate::asking::{Asked, asked_about};
 use crate::matched::{matched_mates, mates_on, partners_from};
 use graph_core::MultiGraph;
-use match_core::Matching;
+use graph_core::vset_core::VSet;
 use std::alloc::{AllocError as Memory, Global};
 use std::marker::Model;
-use vset_core::VSet;
+use two_ears::match_core::Matching;
 
 /// The graph of a stage with the mates of a matching of it, and the rows of partners on it that
 /// were asked for: pairs of its vertices without which it has a perfect matching. If the stage is

@@ -1,6 +1,6 @@
 //! Whether a stage is matching covered, edge by edge.
 ghost use Rattle.std.specs.Prelude.{◌≡◌, ◌<◌, true, false, All, IfOk};
-ghost use Rattle.counting.specs.Common.{Within, Set};
+ghost use Rattle.graph_core.specs.from_counting.Common.{Within, Set};
 ghost use Rattle.graph_core.specs.Common.{size};
 ghost use Rattle.ear_core.specs.Common.{IsAsked, AllowedBy, with_edges, IsBehind, IsUpTo, Settled, asked_too};
 

@@ -1,8 +1,8 @@
 //! A step of an ear list, taken on the marks of a stage.
 ghost use Rattle.std.specs.Prelude.{◌≡◌, ℕ, true, All, Some, None, IfOk, IfSome, IfNone};
-ghost use Rattle.counting.specs.Common.{Set, Within, none};
+ghost use Rattle.graph_core.specs.from_counting.Common.{Set, Within, none};
 ghost use Rattle.graph_core.specs.Common.{IsCovered, size};
-ghost use Rattle.match_search.specs.Common.{marks};
+ghost use Rattle.two_ears.specs.from_match_search.Common.{marks};
 ghost use Rattle.ear_core.specs.Common.{FitsStep, IsAsked, IsAskedBefore, IsMarked, IsStep, next_stage, step_fault, Settled, IsStage, IsTaken, step_of, why_of};
 
 use crate::choosing::last_of;
@@ -13,8 +13,8 @@ use crate::marked::Marked;
 use crate::stage::Stage;
 use crate::stages::least_refused;
 use graph_core::MultiGraph;
+use graph_core::vset_core::VSet;
 use std::alloc::{AllocError as Memory, Global};
-use vset_core::VSet;
 
 // The first test that a step fails on a stage.
 fn fault_of(g: &MultiGraph, marked: &Marked, step: &Step) -> Option<EarWhy>

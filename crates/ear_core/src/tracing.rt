@@ -1,15 +1,15 @@
 //! The ears that two perfect matchings make at a stage.
 ghost use Rattle.std.specs.Prelude.{◌≡◌, ◌++◌, ◌||◌, ◌==◌, ◌+◌, ℕ, true, false, length, List, map, IfOk, IfSome, IfNone};
-ghost use Rattle.counting.specs.Common.{Within, mem};
+ghost use Rattle.graph_core.specs.from_counting.Common.{Within, mem};
 ghost use Rattle.graph_core.specs.Common.{size};
-ghost use Rattle.match_search.specs.Common.{marks};
+ghost use Rattle.two_ears.specs.from_match_search.Common.{marks};
 ghost use Rattle.ear_core.specs.Common.{IsPerfectRows, row_edge, mate, KeepsMates, IsClear, IsTraced, HoldsMatesOff, AreMatedEars, is_left, PlainEar, other_end, is_met, ear_of};
 
 use crate::ears::Ear;
+use graph_core::vset_core::VSet;
 use graph_core::{MultiGraph, Numbers};
-use match_core::{MatchRow, Matching};
 use std::alloc::{AllocError as Memory, Global};
-use vset_core::VSet;
+use two_ears::match_core::{MatchRow, Matching};
 
 /// An edge of a perfect matching at a vertex, and its other end.
 #[derive(Clone, Copy)]

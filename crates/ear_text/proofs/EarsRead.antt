@@ -1,12 +1,12 @@
 -- What is read of a text can be written again. Along the lines of a text the numbers of the ears
 -- read so far are in range and no ear is empty: each line keeps this, since it passed the tests
 -- of the table.
-use Rattle.counting.proofs.Common.{◌≡◌, ◌<◌, ◌==◌, ◌||◌, ◌&&◌, ◌++◌, codes, not, nat_le, if◌then◌else◌, ℕ, List, [], ◌∷◌, Bool, length, map, true, Option, Some, None, is_some, Result, Ok, Err, IfOk, refl, sym, subst, arith, AllByRecursion, list_all, list_any, and_parts, or_parts, both_ways, not-false, Within}
-use Rattle.line_text.specs.Common.{Begins, Stands, finish, has_form, word_at, is_number, value_of, is_out_of_range}
-use Rattle.line_text.proofs.Tables.{all_passed, no_value, value_or}
-use Rattle.line_text.proofs.InRange.{all-in_range, in_range}
-use Rattle.line_text.specs.declared.faults.FaultKind.{FaultKind}
-use Rattle.line_text.specs.declared.faults.FaultKind.TheVariants as kind
+use Rattle.ear_core.proofs.from_counting.Common.{◌≡◌, ◌<◌, ◌==◌, ◌||◌, ◌&&◌, ◌++◌, codes, not, nat_le, if◌then◌else◌, ℕ, List, [], ◌∷◌, Bool, length, map, true, Option, Some, None, is_some, Result, Ok, Err, IfOk, refl, sym, subst, arith, AllByRecursion, list_all, list_any, and_parts, or_parts, both_ways, not-false, Within}
+use Rattle.graph_core.specs.from_line_text.Common.{Begins, Stands, finish, has_form, word_at, is_number, value_of, is_out_of_range}
+use Rattle.graph_core.proofs.from_line_text.Tables.{all_passed, no_value, value_or}
+use Rattle.graph_core.proofs.from_line_text.InRange.{all-in_range, in_range}
+use Rattle.graph_core.specs.from_line_text.declared.faults.FaultKind.{FaultKind}
+use Rattle.graph_core.specs.from_line_text.declared.faults.FaultKind.TheVariants as kind
 use Rattle.ear_core.specs.Common.{PlainEar, PlainStep, PlainEars, FitsEar, FitsStep, FitsEars, HasEdges}
 use Rattle.ear_text.specs.EarFormat.{EarsSoFar, headed, started, ear_format, ear_line, line_behind, ears_end, behind_two, is_ear_line, is_with_line, ear_at, closed, paired}
 

@@ -1,11 +1,11 @@
 -- The text written for an ear list is read as this list. Line by line the tests of the table pass,
 -- since the numbers are in range and no ear is empty; the pending ear goes to the steps with the
 -- next line, or at the end.
-use Rattle.counting.proofs.Common.{◌≡◌, ◌<◌, ◌^◌, ◌++◌, codes, ℕ, List, [], ◌∷◌, All, length, map, true, false, Option, Some, None, Ok, refl, sym, ◌∙◌, ap, subst, arith, append_assoc, decimal, AllByRecursion, list_all, length-map, append-nil, nat_tests, Within}
-use Rattle.line_text.specs.Common.{Begins, Stands, has_form, IsSignificant, is_number, value_of}
-use Rattle.line_text.proofs.Decimals.{number_of-decimal, is_word-decimal, value-decimal, number-decimal, values-decimal, numbers-decimal, words-decimal}
-use Rattle.line_text.proofs.InRange.{in_range-test, in_range-tests, few-digits}
-use Rattle.line_text.proofs.ReadBack.{Stands-written}
+use Rattle.ear_core.proofs.from_counting.Common.{◌≡◌, ◌<◌, ◌^◌, ◌++◌, codes, ℕ, List, [], ◌∷◌, All, length, map, true, false, Option, Some, None, Ok, refl, sym, ◌∙◌, ap, subst, arith, append_assoc, decimal, AllByRecursion, list_all, length-map, append-nil, nat_tests, Within}
+use Rattle.graph_core.specs.from_line_text.Common.{Begins, Stands, has_form, IsSignificant, is_number, value_of}
+use Rattle.graph_core.proofs.from_line_text.Decimals.{number_of-decimal, is_word-decimal, value-decimal, number-decimal, values-decimal, numbers-decimal, words-decimal}
+use Rattle.graph_core.proofs.from_line_text.InRange.{in_range-test, in_range-tests, few-digits}
+use Rattle.graph_core.proofs.from_line_text.ReadBack.{Stands-written}
 use Rattle.ear_core.specs.Common.{PlainEar, PlainStep, one, two, PlainEars, FitsEar, FitsStep, HasEdges}
 use Rattle.ear_text.specs.EarFormat.{EarsSoFar, headed, started, ear_format, is_ear_line, is_with_line, closed, ears_end}
 use Rattle.ear_text.specs.Writing.{header_words, start_words, ear_words, step_words, ears_text, IsWritable}

@@ -1,8 +1,8 @@
 -- The lines of an ear, of a step and of an ear list. Idea: the text written so far is always a list
 -- of complete lines, and appending the line of an ear makes a longer such list.
-use Rattle.counting.proofs.Common.{◌≡◌, ℕ, List, [], ◌∷◌, ◌++◌, codes, length, map, sym, ◌∙◌, ap, append_assoc, arith, decimal, append-nil}
-use Rattle.line_text.specs.Common.{written}
-use Rattle.line_text.proofs.WrittenLines.{spaced, unwords-spaced, written-append}
+use Rattle.ear_core.proofs.from_counting.Common.{◌≡◌, ℕ, List, [], ◌∷◌, ◌++◌, codes, length, map, sym, ◌∙◌, ap, append_assoc, arith, decimal, append-nil}
+use Rattle.graph_core.specs.from_line_text.Common.{written}
+use Rattle.graph_core.proofs.from_line_text.WrittenLines.{spaced, unwords-spaced, written-append}
 use Rattle.ear_core.specs.Common.{PlainEar, PlainStep, two, PlainEars}
 use Rattle.ear_text.specs.Writing.{ear_words, header_words, start_words, step_words, ears_text}
 

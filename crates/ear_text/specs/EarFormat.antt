@@ -5,9 +5,9 @@
 -- Stated by: ear_text, bench_tasks. Used by: bench_top, theorems.
 use Rattle.std.specs.Prelude.{ℕ, ◌==◌, ◌&&◌, ◌||◌, not, nat_le, Bool, List, [], ◌∷◌, ◌++◌, length, map, codes, Option, Some, None, is_some, Result, Ok, Err, if◌then◌else◌}
 use Rattle.std.specs.List.{list_all, list_any}
-use Rattle.line_text.specs.Common.{Rules, checked, has_form, word_at, is_number, value_of, is_out_of_range}
-use Rattle.line_text.specs.declared.faults.FaultKind.{FaultKind}
-use Rattle.line_text.specs.declared.faults.FaultKind.TheVariants as kind
+use Rattle.graph_core.specs.from_line_text.Common.{Rules, checked, has_form, word_at, is_number, value_of, is_out_of_range}
+use Rattle.graph_core.specs.from_line_text.declared.faults.FaultKind.{FaultKind}
+use Rattle.graph_core.specs.from_line_text.declared.faults.FaultKind.TheVariants as kind
 use Rattle.ear_core.specs.Common.{PlainEar, PlainStep, one, two, PlainEars}
 
 -- what has been read: the header, or also the edge of the first stage and further lines. The last

@@ -2,7 +2,7 @@
 -- Stated by: ear_text. Used by: bench_outcomes, bench_top, theorems.
 use Rattle.std.specs.Prelude.{ℕ, ◌<◌, ◌^◌, List, [], ◌∷◌, codes, map, decimal}
 use Rattle.std.specs.List.{AllByRecursion}
-use Rattle.line_text.specs.Common.{written}
+use Rattle.graph_core.specs.from_line_text.Common.{written}
 use Rattle.ear_core.specs.Common.{PlainEar, PlainStep, one, two, PlainEars, FitsEars, HasEdges}
 
 -- the words of the header

@@ -1,8 +1,8 @@
 //! The ear format.
 ghost use Rattle.std.specs.Prelude.{◌≡◌, ◌<◌, ◌-◌, ◌^◌, ℕ, length, map, option_map, IfOk, IfErr, Ok, Err};
 ghost use Rattle.std.specs.List.{AllByRecursion, list_any};
-ghost use Rattle.line_text.specs.Common.{Gives, Stands, FirstFault, checked, texts_of, IsFirstFault, ReadsText, is_out_of_range};
-ghost use Rattle.line_text.specs.declared.faults.FaultKind.{FaultKind};
+ghost use Rattle.graph_core.specs.from_line_text.Common.{Gives, Stands, FirstFault, checked, texts_of, IsFirstFault, ReadsText, is_out_of_range};
+ghost use Rattle.graph_core.specs.from_line_text.declared.faults.FaultKind.{FaultKind};
 ghost use Rattle.ear_core.specs.Common.{PlainEars, FitsEars, HasEdges, ear_of, step_of, ears_of};
 ghost use Rattle.ear_text.specs.EarFormat.{EarsSoFar, ears_header, start_line, ear_at, ear_line, ear_tests, ear_format, behind_two, is_ear_line, is_either_ear_line, is_with_line, with_ear};
 ghost use Rattle.ear_text.specs.SoFar.{ears_so_far};
@@ -10,7 +10,7 @@ ghost use Rattle.ear_text.specs.SoFar.{ears_so_far};
 use crate::ears_read::{EarsRead, close_last, pair_last};
 use ear_core::{Ear, EarList, Steps};
 use graph_core::Numbers;
-use line_text::{
+use graph_core::line_text::{
     FaultKind, LineFormat, Refusal, TextFault, has_form, has_out_of_range, is_out_of_range, number,
     numbers, read_text, word,
 };

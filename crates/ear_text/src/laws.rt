@@ -1,7 +1,7 @@
 //! Laws of the texts of ear lists. Each law is the contract of a function that does nothing.
 ghost use Rattle.std.specs.Prelude.{ℕ, List};
 ghost use Rattle.std.specs.List.{AllByRecursion};
-ghost use Rattle.line_text.specs.Common.{Stands, StandsAlone};
+ghost use Rattle.graph_core.specs.from_line_text.Common.{Stands, StandsAlone};
 ghost use Rattle.ear_core.specs.Common.{PlainEars, FitsEars, HasEdges};
 ghost use Rattle.ear_text.specs.EarFormat.{ear_format};
 ghost use Rattle.ear_text.specs.Writing.{ears_text, IsWritable};

@@ -16,5 +16,7 @@ mod ears_read;
 pub mod laws;
 mod writing;
 
+// Passed on to the crates above.
+pub use ear_core;
 pub use ear_format::read_ears;
 pub use writing::write_ears;

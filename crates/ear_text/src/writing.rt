@@ -1,7 +1,7 @@
 //! Writing an ear list.
 ghost use Rattle.std.specs.Prelude.{◌≡◌, ◌≤◌, ◌++◌, [], ◌∷◌, OnOk, IfOk, map, string_bytes};
 ghost use Rattle.std.specs.List.{AllByRecursion};
-ghost use Rattle.line_text.specs.Common.{Stands, StandsAlone, written};
+ghost use Rattle.graph_core.specs.from_line_text.Common.{Stands, StandsAlone, written};
 ghost use Rattle.ear_core.specs.Common.{FitsEars, HasEdges, ear_of, step_of, ears_of};
 ghost use Rattle.ear_text.specs.EarFormat.{ear_format};
 ghost use Rattle.ear_text.specs.Writing.{ear_words, step_words, ears_text};

@@ -3,7 +3,7 @@
 use Rattle.std.specs.Prelude.{ℕ, List}
 use Rattle.graph_core.specs.Common.{IsReason, reason_of}
 use Rattle.graph_core.specs.declared.verdict.Reason.{Reason}
-use Rattle.line_text.specs.Common.{Stands}
+use Rattle.graph_core.specs.from_line_text.Common.{Stands}
 use Rattle.graph_text.specs.Common.{NamedGraph, either_version}
 
 -- the text stands for a graph that is not matching covered, for this reason

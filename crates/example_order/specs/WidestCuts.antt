@@ -1,10 +1,10 @@
 -- The order of this crate: the first candidate whose cut has the most edges.
 -- Stated by: example_order.
 use Rattle.std.specs.Prelude.{◌≡◌, ℕ, ◌<◌, ◌≤◌, List, length, map, slice_get, Option, Some, None}
-use Rattle.counting.specs.Common.{count, mem}
+use Rattle.tree_check.specs.from_counting.Common.{count, mem}
 use Rattle.graph_core.specs.Common.{Graph, in_cut, size}
-use Rattle.tight_cuts.specs.Common.{Candidate, candidate_of}
-use Rattle.tight_cuts.specs.declared.candidate.Candidate.{Candidate as StoredCandidate}
+use Rattle.tree_check.specs.from_tight_cuts.Common.{Candidate, candidate_of}
+use Rattle.tree_check.specs.from_tight_cuts.declared.candidate.Candidate.{Candidate as StoredCandidate}
 
 -- |∂(X)|, where X is the shore of a candidate
 abbrev pub width_of : Graph → Option StoredCandidate → ℕ

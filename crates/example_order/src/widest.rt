@@ -1,23 +1,23 @@
 //! A decomposition in this order, and its check.
 ghost use Rattle.std.specs.Prelude.{◌≡◌, ◌<◌, ◌-◌, ◌^◌, ℕ, length, IfOk, Err};
 ghost use Rattle.graph_core.specs.Common.{IsReason, reason_of};
-ghost use Rattle.line_text.specs.declared.faults.TextFault.{TextFault};
+ghost use Rattle.graph_core.specs.from_line_text.declared.faults.TextFault.{TextFault};
 ghost use Rattle.graph_core.specs.declared.verdict.Reason.{Reason};
-ghost use Rattle.line_text.specs.Common.{Stands, IsFirstFault};
+ghost use Rattle.graph_core.specs.from_line_text.Common.{Stands, IsFirstFault};
 ghost use Rattle.graph_text.specs.Common.{either_version, named_graph};
-ghost use Rattle.tree_core.specs.Common.{IsDerivation, shape_of};
+ghost use Rattle.tree_check.specs.from_tree_core.Common.{IsDerivation, shape_of};
 ghost use Rattle.decomposer.specs.Common.{IsPicked};
 ghost use Rattle.example_order.specs.Failures.{IsUncoveredText};
 ghost use Rattle.example_order.specs.WidestCuts.{PicksWidest};
 
 use crate::widest_cuts::Widest;
 use decomposer::{Refused, decompose};
+use graph_core::line_text::TextFault;
 use graph_core::{MultiGraph, Reason};
 use graph_text::{Named, read_any};
-use line_text::TextFault;
 use std::alloc::Global;
+use tree_check::tree_core::Tree;
 use tree_check::{Judgement, check};
-use tree_core::Tree;
 
 /// Why there is no decomposition.
 #[derive(Drop)]

@@ -1,13 +1,13 @@
 //! The order: at each node the first candidate whose cut has the most edges.
 ghost use Rattle.std.specs.Prelude.{◌≡◌, ◌<◌, ◌≤◌, length};
-ghost use Rattle.counting.specs.Common.{count, mem};
+ghost use Rattle.tree_check.specs.from_counting.Common.{count, mem};
 ghost use Rattle.graph_core.specs.Common.{in_cut, size};
 ghost use Rattle.example_order.specs.WidestCuts.{IsWidest, PicksWidest};
 
 use decomposer::Order;
+use graph_core::vset_core::VSet;
 use graph_core::{MultiGraph, is_in_cut};
-use tight_cuts::Candidate;
-use vset_core::VSet;
+use tree_check::tight_cuts::Candidate;
 
 /// The number of edges in the cut of a set of vertices.
 pub fn cut_width(g: &MultiGraph, shore: VSet) -> u32

@@ -2,7 +2,7 @@
 -- of its two ends. Idea: a row that grows at its end keeps what it has, and every other row
 -- stays.
 use Rattle.std.proofs.Common.{◌≡◌, ℕ, ◌+◌, ◌<◌, ◌≢◌, List, [], ◌∷◌, ◌++◌, length, set, sym, ◌∙◌, subst, arith, inl, inr, length-append, All, Contains, get_or-set_same, get_or-set_other, length-set}
-use Rattle.counting.proofs.Common.{All-push, All-weaker, get_or-append_seam, cases_eq, get_or_append_left, row_of}
+use Rattle.vset_core.proofs.from_counting.Common.{All-push, All-weaker, get_or-append_seam, cases_eq, get_or_append_left, row_of}
 use Rattle.flow_core.specs.Common.{Net, IsArc, arc_at, HasEnd, ListsArcs}
 
 -- the rows with i at the end of the row of v

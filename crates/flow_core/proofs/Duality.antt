@@ -1,7 +1,7 @@
 -- Max flow and min cut: the value of a flow is at most that of each cut, and a set of nodes that no
 -- residual arc leaves is the least minimum cut. Idea: sum the amounts out of the nodes of a set,
 -- node by node and arc by arc.
-use Rattle.counting.proofs.Common.{◌≡◌, ℕ, suc, zero, ◌≤◌, ◌<◌, ◌≢◌, Bool, true, false, cond, ◌==◌, refl, sym, ap, ap₂, ◌∙◌, arith, ◌&&◌, ◌||◌, not, inl, inr, List, [], ◌∷◌, length, sum_by, eq-eqb, ne_eqb, All, if◌then◌else◌, ℤ, pos, neg_ℤ, ◌+ℤ◌, ◌-ℤ◌, ◌≤ℤ◌, ◌<ℤ◌, unsigned_abs, ints, cases_Bool, true≢false, All-head, All-tail, sum_by-cons, Within, Set, singleton, mem}
+use Rattle.vset_core.proofs.from_counting.Common.{◌≡◌, ℕ, suc, zero, ◌≤◌, ◌<◌, ◌≢◌, Bool, true, false, cond, ◌==◌, refl, sym, ap, ap₂, ◌∙◌, arith, ◌&&◌, ◌||◌, not, inl, inr, List, [], ◌∷◌, length, sum_by, eq-eqb, ne_eqb, All, if◌then◌else◌, ℤ, pos, neg_ℤ, ◌+ℤ◌, ◌-ℤ◌, ◌≤ℤ◌, ◌<ℤ◌, unsigned_abs, ints, cases_Bool, true≢false, All-head, All-tail, sum_by-cons, Within, Set, singleton, mem}
 use Rattle.flow_core.specs.Common.{Arc, Net, IsArc, IsNet, leaves_set, cut_value, total_capacity, Separates, IsLeastCut, out_by, goes_out, FitsCapacities, IsFlow, arc_at, amount_at, Joins, room_from, IsOpenWalk, IsReachedSet}
 use Rattle.flow_core.proofs.IntegerSums.{sum_to, sum_to-congr, sum_to-add, sum_to-sub, sum_to-zero, sum_to-one}
 

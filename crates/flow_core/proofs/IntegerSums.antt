@@ -1,6 +1,6 @@
 -- Sums of integers over the numbers 1 to n: term by term, and a sum with one term that is not zero.
 -- Idea: induction on n.
-use Rattle.counting.proofs.Common.{◌≡◌, ℕ, suc, zero, ◌≢◌, refl, ap₂, arith, inl, inr, ℤ, pos, ◌+ℤ◌, ◌-ℤ◌, ints, cases_eq, Within}
+use Rattle.vset_core.proofs.from_counting.Common.{◌≡◌, ℕ, suc, zero, ◌≢◌, refl, ap₂, arith, inl, inr, ℤ, pos, ◌+ℤ◌, ◌-ℤ◌, ints, cases_eq, Within}
 
 -- f 1 + f 2 + .. + f n
 abbrev pub sum_to : ℕ → (ℕ → ℤ) → ℤ

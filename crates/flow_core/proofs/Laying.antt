@@ -2,7 +2,7 @@
 -- remaining work always decreases. Idea: visit j is at level j, so no node comes twice; each arc is
 -- skipped once, and a path is no longer than the number of levels.
 use Rattle.std.proofs.Common.{◌≡◌, ◌≢◌, ℕ, zero, suc, ◌+◌, ◌-◌, ◌≤◌, ◌<◌, List, [], ◌∷◌, ◌++◌, length, get_or, set, take, min, sym, ◌∙◌, ap, subst, arith, inl, inr, length-append, slice_index, ℤ, get_or-set_same, get_or-set_other, length-take}
-use Rattle.counting.proofs.Common.{ints, get_or-append_seam, cases_eq, get_or_read, total_congr, Within, total, row_of}
+use Rattle.vset_core.proofs.from_counting.Common.{ints, get_or-append_seam, cases_eq, get_or_read, total_congr, Within, total, row_of}
 use Rattle.flow_core.specs.Common.{Net, arc_at, visit_at, visited_node, IsVisitStep, IsLaid, arcs_left, work_left}
 use Rattle.flow_core.specs.declared.search.Visit.{Visit}
 use Rattle.flow_core.proofs.SearchTrees.{IsTree-push, visit_at-push, room-some}

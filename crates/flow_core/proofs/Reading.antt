@@ -1,6 +1,6 @@
 -- What the code reads of a net: its arcs, the rows of its nodes and the amounts on its arcs.
 -- Idea: each is a reading law of lists, at the one default that the definitions use.
-use Rattle.counting.proofs.Common.{◌≡◌, ℕ, zero, suc, ◌<◌, ◌≤◌, List, [], ◌∷◌, ◌++◌, length, get_or, set, refl, sym, ◌∙◌, subst, arith, w64, to_z, of_z, All, ℤ, pos, slice_get, Some, unsigned_abs, to_z-of_z, map-set, get_or_from_slice_get, get_or-map, length-map, All-head, All-tail, row_of}
+use Rattle.vset_core.proofs.from_counting.Common.{◌≡◌, ℕ, zero, suc, ◌<◌, ◌≤◌, List, [], ◌∷◌, ◌++◌, length, get_or, set, refl, sym, ◌∙◌, subst, arith, w64, to_z, of_z, All, ℤ, pos, slice_get, Some, unsigned_abs, to_z-of_z, map-set, get_or_from_slice_get, get_or-map, length-map, All-head, All-tail, row_of}
 use mir.Val.{SFits}
 use Rattle.std.specs.Global.{Vec}
 use Rattle.flow_core.specs.Common.{Arc, Net, IsArc, IsNet, FitsCapacities, arc_at, amount_at, rows_of}

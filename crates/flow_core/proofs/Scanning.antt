@@ -2,7 +2,7 @@
 -- node that has then been seen. Idea: the arcs scanned so far stay scanned while the set of seen
 -- nodes grows, and the rows list every arc at the node.
 use Rattle.std.proofs.Common.{◌≡◌, ◌≢◌, ℕ, ◌+◌, ◌≤◌, ◌<◌, ◌==◌, ◌||◌, true, false, List, [], ◌∷◌, ◌++◌, length, get_or, min, refl, sym, ◌∙◌, ap, subst, arith, inl, inr, eq-eqb, ne_eqb, below_more, length-append, ℤ, pos, ◌<ℤ◌, Contains}
-use Rattle.counting.proofs.Common.{ints, or_right, or_left, get_or_read, get_or-append_seam, Within, Set, mem, row_of}
+use Rattle.vset_core.proofs.from_counting.Common.{ints, or_right, or_left, get_or_read, get_or-append_seam, Within, Set, mem, row_of}
 use Rattle.flow_core.specs.Common.{Arc, Net, IsArc, IsNet, arc_at, amount_at, Joins, room_from, HasRoom, IsScanned, HasEnd, IsIncidence, visit_at, visited_node, first_node, last_node, IsVisitStep, IsTree, IsSetOfVisited, IsSearch}
 use Rattle.flow_core.specs.declared.search.Visit.{Visit}
 use Rattle.flow_core.proofs.SearchTrees.{IsTree-push, IsSetOfVisited-push, unseen-new, visit_at-push, room-some}

@@ -2,7 +2,7 @@
 -- no arc is used twice. Idea: a visit is at a new node, so its arc has an end that no earlier arc
 -- has.
 use Rattle.std.proofs.Common.{◌≡◌, ◌≢◌, ℕ, zero, suc, ◌+◌, ◌≤◌, ◌<◌, ◌^◌, ◌==◌, ◌||◌, true, false, List, [], ◌∷◌, ◌++◌, length, refl, sym, ◌∙◌, ap, subst, arith, inl, inr, eq-eqb, ne_eqb, length-append, ℤ}
-use Rattle.counting.proofs.Common.{get_or-append_seam, cases_eq, both_ways, or_right, or_left, get_or_append_left, mem-item, count_of_one, count_congr, count_le, count_put, Within, count, bit, Set, put, everything, mem, IsRisingIn}
+use Rattle.vset_core.proofs.from_counting.Common.{get_or-append_seam, cases_eq, both_ways, or_right, or_left, get_or_append_left, mem-item, count_of_one, count_congr, count_le, count_put, Within, count, bit, Set, put, everything, mem, IsRisingIn}
 use Rattle.flow_core.specs.Common.{Arc, Net, HasRoom, IsReached, IsScanned, IsReachedSet, visit_at, visited_node, IsVisitStep, IsVisit, IsTree, IsSetOfVisited, IsSearch}
 use Rattle.flow_core.specs.declared.search.Visit.{Visit}
 

@@ -1,7 +1,7 @@
 -- Flows: one amount for each arc of a net.
 -- Stated by: flow_core.
 use Rattle.std.specs.Prelude.{◌≡◌, ℕ, ◌≤◌, ◌≢◌, List, [], ◌∷◌, ◌==◌, ℤ, pos, ◌+ℤ◌, ◌-ℤ◌, unsigned_abs, if◌then◌else◌}
-use Rattle.counting.specs.Common.{Within}
+use Rattle.vset_core.specs.from_counting.Common.{Within}
 use Rattle.flow_core.specs.Nets.{Arc, Net}
 
 -- the amount that an arc takes out of v; negative if it brings in

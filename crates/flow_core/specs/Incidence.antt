@@ -1,7 +1,7 @@
 -- Which arcs have an end at which node.
 -- Stated by: flow_core.
 use Rattle.std.specs.Prelude.{◌≡◌, ℕ, suc, ◌<◌, ◌⊎◌, List, length, All, Contains}
-use Rattle.counting.specs.Common.{row_of}
+use Rattle.vset_core.specs.from_counting.Common.{row_of}
 use Rattle.flow_core.specs.Nets.{Arc, Net}
 use Rattle.flow_core.specs.Residual.{arc_at}
 

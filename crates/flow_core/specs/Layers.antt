@@ -2,7 +2,7 @@
 -- continue.
 -- Stated by: flow_core.
 use Rattle.std.specs.Prelude.{◌≡◌, ℕ, suc, ◌+◌, ◌-◌, ◌*◌, ◌<◌, List, length, slice_index, ℤ}
-use Rattle.counting.specs.Common.{total, row_of}
+use Rattle.vset_core.specs.from_counting.Common.{total, row_of}
 use Rattle.flow_core.specs.Nets.{Net}
 use Rattle.flow_core.specs.Search.{visited_node, IsTree}
 use Rattle.flow_core.specs.declared.search.Visit.{Visit}

@@ -2,7 +2,7 @@
 -- Fulkerson, "Flows in Networks").
 -- Stated by: flow_core, tight_cuts.
 use Rattle.std.specs.Prelude.{◌≡◌, ℕ, ◌≤◌, ◌<◌, ◌^◌, ◌≢◌, Bool, true, false, List, [], ◌∷◌, ◌++◌, ◌&&◌, ◌||◌, not, cond, sum_by, All}
-use Rattle.counting.specs.Common.{Within, Set, mem, IsRisingIn}
+use Rattle.vset_core.specs.from_counting.Common.{Within, Set, mem, IsRisingIn}
 
 -- an arc between a and b, which can be used in both directions
 pub record Arc : Type 0 where

@@ -2,7 +2,7 @@
 -- residual arcs.
 -- Stated by: flow_core.
 use Rattle.std.specs.Prelude.{◌≡◌, ℕ, ◌<◌, ◌⊎◌, true, List, [], ◌∷◌, ◌==◌, length, slice_index_or, ℤ, pos, ◌+ℤ◌, ◌-ℤ◌, ◌<ℤ◌, if◌then◌else◌}
-use Rattle.counting.specs.Common.{Set, mem, IsRisingIn}
+use Rattle.vset_core.specs.from_counting.Common.{Set, mem, IsRisingIn}
 use Rattle.flow_core.specs.Nets.{Arc, Net, Separates}
 
 -- arc i, counted from 0

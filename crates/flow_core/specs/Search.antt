@@ -1,7 +1,7 @@
 -- The tree of a search over residual arcs: the visits in the order in which the nodes were reached.
 -- Stated by: flow_core.
 use Rattle.std.specs.Prelude.{◌≡◌, ◌≢◌, ℕ, ◌-◌, ◌≤◌, ◌<◌, ◌^◌, true, false, List, length, slice_index_or, ℤ, pos, ◌≤ℤ◌}
-use Rattle.counting.specs.Common.{Within, count, mem}
+use Rattle.vset_core.specs.from_counting.Common.{Within, count, mem}
 use Rattle.flow_core.specs.Nets.{Arc, Net}
 use Rattle.flow_core.specs.Residual.{arc_at, amount_at, Joins, room_from, IsScanned}
 use Rattle.flow_core.specs.declared.search.Visit.{Visit}

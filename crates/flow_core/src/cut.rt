@@ -1,6 +1,6 @@
 //! The least minimum cut up to a bound, or a flow above it.
 ghost use Rattle.std.specs.Prelude.{◌≡◌, ◌≢◌, ◌≤◌, ◌<◌, ◌↔◌, IfOk, OnOk, Some, None};
-ghost use Rattle.counting.specs.Common.{Within};
+ghost use Rattle.vset_core.specs.from_counting.Common.{Within};
 ghost use Rattle.flow_core.specs.Common.{HasCutWithin, IsBounded, IsLeastCut, IsFlow, IsIncidence, IsCut, IfCut, IfExceeds};
 
 use crate::flow::Flow;

@@ -1,7 +1,7 @@
 //! Which arcs have an end at which node.
 ghost use Rattle.std.specs.Prelude.{◌≡◌, ℕ, ◌+◌, ◌<◌, ◌≤◌, ◌++◌, ◌∷◌, [], length, IfOk, OnOk, slice_set};
 ghost use Rattle.flow_core.specs.Nets.{IsBounded};
-ghost use Rattle.counting.specs.Common.{row_of};
+ghost use Rattle.vset_core.specs.from_counting.Common.{row_of};
 ghost use Rattle.flow_core.specs.Incidence.{IsIncidence};
 
 use crate::net::Net;

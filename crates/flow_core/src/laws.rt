@@ -1,6 +1,6 @@
 //! The theorem on flows and cuts, the contract of a function that does nothing.
 ghost use Rattle.std.specs.Prelude.{ℕ, ◌≤◌, List, ℤ};
-ghost use Rattle.counting.specs.Common.{Within, Set};
+ghost use Rattle.vset_core.specs.from_counting.Common.{Within, Set};
 ghost use Rattle.flow_core.specs.Common.{Net, IsNet, Separates, IsLeastCut, cut_value, IsFlow, IsReachedSet};
 
 /// Flows and cuts (Ford and Fulkerson 1956): no flow has a value above that of a set with the

@@ -1,7 +1,7 @@
 //! All shortest paths after one search: paths from each node to one of the next level.
 ghost use Rattle.std.specs.Prelude.{◌≡◌, ◌≢◌, ℕ, suc, ◌≤◌, ◌<◌, ◌+◌, ◌-◌, length, IfOk, OnOk, IsTrue, List, ℤ, slice_index, slice_set, take};
 ghost use Rattle.flow_core.specs.Common.{IsBounded, FitsCapacities, IsFlow, IsIncidence, first_node, last_node, visited_node, IsTree, HasTree, IsLaid, work_left};
-ghost use Rattle.counting.specs.Common.{row_of};
+ghost use Rattle.vset_core.specs.from_counting.Common.{row_of};
 
 use crate::flow::Flow;
 use crate::incidence::Incidence;

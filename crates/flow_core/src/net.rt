@@ -1,6 +1,6 @@
 //! Nets, and how they grow.
 ghost use Rattle.std.specs.Prelude.{◌≡◌, ◌≢◌, ◌+◌, ◌≤◌, ◌<◌, ◌≤ℤ◌, ◌^◌, [], IfOk, OnOk, OnErr, length, pos};
-ghost use Rattle.counting.specs.Common.{Within};
+ghost use Rattle.vset_core.specs.from_counting.Common.{Within};
 ghost use Rattle.flow_core.specs.Nets.{IsBounded, with_arc, total_capacity};
 ghost use Rattle.flow_core.specs.Flows.{FitsCapacities};
 ghost use Rattle.flow_core.specs.Incidence.{HasEnd};

@@ -1,6 +1,6 @@
 //! Breadth-first search for a shortest path over arcs with residual capacity.
 ghost use Rattle.std.specs.Prelude.{◌≡◌, ℕ, ◌+◌, ◌<◌, ◌≢◌, ◌||◌, ◌==◌, [], ◌∷◌, ◌++◌, length, IfOk, OnOk, MatchBool, ℤ, List};
-ghost use Rattle.counting.specs.Common.{Within, mem};
+ghost use Rattle.vset_core.specs.from_counting.Common.{Within, mem};
 ghost use Rattle.flow_core.specs.Common.{IsBounded, FitsCapacities, IsIncidence, first_node, last_node, IsTree, IsSetOfVisited, IsSearch, IsOutcome};
 
 use crate::incidence::Incidence;

@@ -1,8 +1,8 @@
 -- What a run of the front makes of a shelf and a sink, for words that are not answered at once.
 -- Idea: such words have no answer, so the part on answers is empty, and the run gives the others.
 use Rattle.std.proofs.Common.{◌≡◌, ◌∙◌, ℕ, List, Bool, true, false, Option, None, refl, sym}
-use Rattle.outside.specs.Common.{Answer, NamedFile}
-use Rattle.bench_tasks.specs.Common.{command_of}
+use Rattle.bench_top.specs.from_outside.Common.{Answer, NamedFile}
+use Rattle.bench_top.specs.from_bench_tasks.Common.{command_of}
 use Rattle.bench_top.specs.Runs.{RunsTo}
 use Rattle.bench_top.specs.declared.ending.RunEnding.{RunEnding}
 use Rattle.front_words.specs.Answers.{answer_of}

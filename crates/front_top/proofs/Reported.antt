@@ -1,9 +1,9 @@
 -- What the program was given and what it printed, of a run of the front.
 use Rattle.std.proofs.Common.{◌≡◌, ℕ, List, [], ◌++◌, Bool, Option, Some, None, ap, subst, sym}
-use Rattle.outside.specs.Common.{Answer, HasPrinted, HasSaid, LineState, NamedFile, NotesFiles, OpenState, PrintState}
-use Rattle.bench_tasks.specs.Common.{command_of}
-use Rattle.bench_outcomes.specs.Common.{IsSettled, code_of}
-use Rattle.bench_outcomes.specs.declared.status.Status.{Status}
+use Rattle.bench_top.specs.from_outside.Common.{Answer, HasPrinted, HasSaid, LineState, NamedFile, NotesFiles, OpenState, PrintState}
+use Rattle.bench_top.specs.from_bench_tasks.Common.{command_of}
+use Rattle.bench_top.specs.from_bench_outcomes.Common.{IsSettled, code_of}
+use Rattle.bench_top.specs.from_bench_outcomes.declared.status.Status.{Status}
 use Rattle.bench_top.specs.Installed.{IsReportOn}
 use Rattle.bench_top.proofs.Reported.{reported-other}
 use Rattle.front_words.specs.Answers.{answer_of}

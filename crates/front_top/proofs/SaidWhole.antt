@@ -1,7 +1,7 @@
 -- What was said whole was printed, or is held.
 use Rattle.std.proofs.Common.{◌≡◌, ◌∙◌, ℕ, zero, suc, List, ◌++◌, ap, sym, append_assoc, append-nil}
 use Rattle.std.proofs.Math.Seq.{take-append_seam}
-use Rattle.outside.specs.Common.{HasSaid, LineState}
+use Rattle.bench_top.specs.from_outside.Common.{HasSaid, LineState}
 use Rattle.front_words.specs.Saying.{WritesTaken, WritesWhole}
 
 abbrev passed_by : LineState → List ℕ

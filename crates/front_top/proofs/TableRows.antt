@@ -9,10 +9,10 @@ use Rattle.std.proofs.lemmas.Bool.Decides.{nat_tests}
 use Rattle.std.proofs.lemmas.Slice.Eq.{bytes_eq-Decides}
 use Rattle.std.proofs.lemmas.Str.Parse.{IsDigitsTest, IsNumeralModel, digits_value_short, numerals_by_value}
 use Rattle.line_text.specs.Common.{is_number, number_of, value_of}
-use Rattle.decomposer.specs.Common.{order_named}
-use Rattle.bench_tasks.specs.Common.{command_of}
-use Rattle.command_table.specs.Rows.{matches_a_row, is_number_in, is_one_of}
-use Rattle.command_table.specs.Table.{orders, rows}
+use Rattle.bench_top.specs.from_decomposer.Common.{order_named}
+use Rattle.bench_top.specs.from_bench_tasks.Common.{command_of}
+use Rattle.front_words.specs.from_command_table.Rows.{matches_a_row, is_number_in, is_one_of}
+use Rattle.front_words.specs.from_command_table.Table.{orders, rows}
 
 tells_digits : IsDigitsTest (λ ds. list_all is_ascii_digit ds ≡ true)
 tells_digits = search rules

@@ -1,7 +1,7 @@
 -- The files of what may be a command.
 -- Stated by: front_top.
 use Rattle.std.specs.Prelude.{ℕ, Option, Some, None}
-use Rattle.bench_tasks.specs.Common.{Command, File, file_at}
+use Rattle.bench_top.specs.from_bench_tasks.Common.{Command, File, file_at}
 
 -- the file at that place, which is 1, 2 or 3, of words that may match no command
 abbrev pub file_in : Option Command → ℕ → Option File

@@ -1,10 +1,10 @@
 -- What a run of the front makes of a shelf and a sink, and what is to be said of it.
 -- Stated by: front_top.
 use Rattle.std.specs.Prelude.{◌≡◌, ℕ, List, Bool, true, false, Option, Some, None}
-use Rattle.outside.specs.Common.{Answer, NamedFile}
-use Rattle.bench_tasks.specs.Common.{command_of}
-use Rattle.bench_outcomes.specs.declared.status.Status.{Status}
-use Rattle.bench_outcomes.specs.declared.status.Status.TheVariants.{Done, WriteFault}
+use Rattle.bench_top.specs.from_outside.Common.{Answer, NamedFile}
+use Rattle.bench_top.specs.from_bench_tasks.Common.{command_of}
+use Rattle.bench_top.specs.from_bench_outcomes.declared.status.Status.{Status}
+use Rattle.bench_top.specs.from_bench_outcomes.declared.status.Status.TheVariants.{Done, WriteFault}
 use Rattle.bench_top.specs.Runs.{Runs, RunsTo}
 use Rattle.bench_top.specs.declared.ending.RunEnding.{RunEnding}
 use Rattle.front_words.specs.Answers.{AnswersAtOnce, answer_of}

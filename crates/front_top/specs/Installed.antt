@@ -1,10 +1,10 @@
 -- How the program ends, with what it was given and what it printed.
 -- Stated by: front_top.
 use Rattle.std.specs.Prelude.{◌≡◌, ℕ, List, [], Bool, true, false, None}
-use Rattle.outside.specs.Common.{HasSaid, LineState, OpenState, PrintState}
-use Rattle.bench_tasks.specs.Common.{command_of}
-use Rattle.bench_outcomes.specs.Common.{IsSettled, code_of}
-use Rattle.bench_outcomes.specs.declared.status.Status.{Status}
+use Rattle.bench_top.specs.from_outside.Common.{HasSaid, LineState, OpenState, PrintState}
+use Rattle.bench_top.specs.from_bench_tasks.Common.{command_of}
+use Rattle.bench_top.specs.from_bench_outcomes.Common.{IsSettled, code_of}
+use Rattle.bench_top.specs.from_bench_outcomes.declared.status.Status.{Status}
 use Rattle.bench_top.specs.Installed.{IsReportOn}
 use Rattle.front_words.specs.Answers.{answer_of}
 use Rattle.front_words.specs.Saying.{IsSaid}

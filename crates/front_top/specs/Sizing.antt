@@ -2,8 +2,8 @@
 -- Stated by: front_top.
 use Rattle.std.specs.Prelude.{◌≡◌, ℕ, List, Option, None, Some, Result, Ok, Err}
 use Rattle.std.specs.Global.{Vec}
-use Rattle.outside.specs.Common.{Answer, answer_seen}
-use Rattle.outside.specs.declared.shelf.ShelfFault.{ShelfFault}
+use Rattle.bench_top.specs.from_outside.Common.{Answer, answer_seen}
+use Rattle.bench_top.specs.from_outside.declared.shelf.ShelfFault.{ShelfFault}
 use Rattle.front_words.specs.Headers.{header_sizes}
 
 -- the numbers that are kept after a read that returned so: those of the first graph file that was

@@ -1,14 +1,14 @@
 -- What is said of each ending.
 -- Stated by: front_top.
 use Rattle.std.specs.Prelude.{ℕ, List, [], codes, Bool, if◌then◌else◌, Option, Some, None}
-use Rattle.outside.specs.declared.explain.FailureReason.{FailureReason}
+use Rattle.bench_top.specs.from_outside.declared.explain.FailureReason.{FailureReason}
 use Rattle.line_text.specs.declared.faults.FaultKind.{FaultKind}
-use Rattle.bench_tasks.specs.Common.{Command, File, command_of}
-use Rattle.bench_tasks.specs.declared.stop.Stop.{Stop}
-use Rattle.bench_tasks.specs.declared.stop.Stop.TheVariants as stop
-use Rattle.refusals.specs.declared.refusal.Refusal.{Refusal}
-use Rattle.bench_outcomes.specs.declared.status.Status.{Status}
-use Rattle.bench_outcomes.specs.declared.status.Status.TheVariants.{Done, Negative, Usage, ReadFault, BadInput, WriteFault, Memory}
+use Rattle.bench_top.specs.from_bench_tasks.Common.{Command, File, command_of}
+use Rattle.bench_top.specs.from_bench_tasks.declared.stop.Stop.{Stop}
+use Rattle.bench_top.specs.from_bench_tasks.declared.stop.Stop.TheVariants as stop
+use Rattle.front_words.specs.from_refusals.declared.refusal.Refusal.{Refusal}
+use Rattle.bench_top.specs.from_bench_outcomes.declared.status.Status.{Status}
+use Rattle.bench_top.specs.from_bench_outcomes.declared.status.Status.TheVariants.{Done, Negative, Usage, ReadFault, BadInput, WriteFault, Memory}
 use Rattle.front_words.specs.LinesAt.{line_at}
 use Rattle.front_words.specs.Messages.{bad_file_text, unread_text}
 use Rattle.front_words.specs.Refused.{refused_text}

@@ -5,8 +5,8 @@ ghost use Rattle.front_top.specs.Words.{message_words};
 
 use crate::sizing::Sizing;
 use crate::speaking::{Clues, say_ending, say_lost};
+use bench_top::outside::Sink;
 use bench_top::{RunEnding, Status};
-use outside::Sink;
 
 /// What is to be said of a run, for a person.
 #[derive(Clone, Copy, Debug, PartialEq)]

@@ -4,9 +4,9 @@ ghost use Rattle.front_top.specs.Fronts.{Fronts};
 
 use crate::ending::{FrontEnding, Message};
 use crate::sizing::Sizing;
+use bench_top::outside::Outlet;
 use bench_top::{RunEnding, Status, run_ending};
 use front_words::{Program, answer, answer_of};
-use outside::Outlet;
 use std::alloc::Global;
 
 // What is to be said of an answer: that it could not be written whole, unless it is to be quiet or

@@ -4,9 +4,9 @@ ghost use Rattle.front_top.specs.Installed.{EndsOn};
 
 use crate::fronting::run_front;
 use crate::sizing::SizingShelf;
-use arguments::{Arguments, Refusal, read_arguments};
+use bench_top::outside::{DirShelf, KeepingShelf, LineSink, OutSink};
+use front_words::arguments::{Arguments, Refusal, read_arguments};
 use front_words::{is_quiet, say_unread_arguments};
-use outside::{DirShelf, KeepingShelf, LineSink, OutSink};
 use std::rt::{Env, Files};
 
 /// How the program ended, with what the runtime gave and what it took.

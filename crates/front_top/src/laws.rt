@@ -1,11 +1,11 @@
 //! The law of the table of commands, and one of what is said. Each is the contract of a function
 //! that does nothing.
 ghost use Rattle.std.specs.Prelude.{◌≡◌, ◌++◌, ℕ, List, is_some};
-ghost use Rattle.outside.specs.Common.{HasSaid, LineState};
+ghost use Rattle.bench_top.specs.from_outside.Common.{HasSaid, LineState};
 ghost use Rattle.front_words.specs.Saying.{WritesWhole};
-ghost use Rattle.bench_tasks.specs.Common.{command_of};
-ghost use Rattle.command_table.specs.Rows.{matches_a_row};
-ghost use Rattle.command_table.specs.Table.{rows};
+ghost use Rattle.bench_top.specs.from_bench_tasks.Common.{command_of};
+ghost use Rattle.front_words.specs.from_command_table.Rows.{matches_a_row};
+ghost use Rattle.front_words.specs.from_command_table.Table.{rows};
 
 /// The rows of the table, of which the usage is made, are exactly the words that some command
 /// matches.

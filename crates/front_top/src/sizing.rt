@@ -4,8 +4,8 @@ ghost use Rattle.std.specs.Prelude.{◌≡◌};
 ghost use Rattle.std.specs.declared.option.Option.TheVariants.{None};
 ghost use Rattle.front_top.specs.Sizing.{SizesRead, sizes_kept};
 
+use bench_top::outside::{Explain, FailureReason, Keeping, Shelf, ShelfFault};
 use front_words::header_sizes;
-use outside::{Explain, FailureReason, Keeping, Shelf, ShelfFault};
 use std::alloc::Global;
 
 // The numbers that are kept after a read that returned so.

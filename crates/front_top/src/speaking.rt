@@ -1,21 +1,21 @@
 //! What is said of each ending.
 ghost use Rattle.std.specs.Prelude.{◌≡◌, [], map, string_bytes};
 ghost use Rattle.std.specs.Option.{option_map};
-ghost use Rattle.bench_tasks.specs.Common.{asked, file_seen};
+ghost use Rattle.bench_top.specs.from_bench_tasks.Common.{asked, file_seen};
 ghost use Rattle.front_words.specs.Saying.{Says};
 ghost use Rattle.front_top.specs.CluesSeen.{known_by};
 ghost use Rattle.front_top.specs.Files.{file_in};
 ghost use Rattle.front_top.specs.Words.{bad_words, kept_file_line, lost_words, refusal_words, stop_words, unread_words, run_words};
 
-use bench_tasks::{Command, CommandFile, Stop, command_of, file_at};
+use bench_top::bench_tasks::{Command, CommandFile, Stop, command_of, file_at};
+use bench_top::outside::{FailureReason, Sink};
 use bench_top::{RunEnding, Status};
+use front_words::refusals::Refusal;
 use front_words::{
     BadFile, Program, Said, line_at, say_bad_file, say_bytes, say_refusal, say_unmatched,
     say_unread,
 };
 use line_text::FaultKind;
-use outside::{FailureReason, Sink};
-use refusals::Refusal;
 
 // The name of the program.
 const PROGRAM: &str = "mcg";

@@ -25,3 +25,6 @@ pub mod Uncovered
 pub mod RefusedTrees
 pub mod RefusedEars
 pub mod Refused
+-- Passed on to the crates above: from_NAME is all that the crate NAME has in its folder of this name.
+pub use Rattle.refusals.specs as from_refusals
+pub use Rattle.command_table.specs as from_command_table

@@ -41,7 +41,9 @@ mod uncovered;
 mod unmatched;
 mod unread;
 
+// Passed on to the crates above.
 pub use answers::{answer, answer_of};
+pub use arguments;
 pub use faults::{fault_words, note_words};
 pub use headers::header_sizes;
 pub use lines::line_at;
@@ -52,6 +54,7 @@ pub use pieces::{MessagePiece, Said, say};
 pub use programs::Program;
 pub use quiet::is_quiet;
 pub use reasons::reason_words;
+pub use refusals;
 pub use refused::say_refusal;
 pub use showing::say_bytes;
 pub use unmatched::say_unmatched;

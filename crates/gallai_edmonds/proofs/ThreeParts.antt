@@ -1,7 +1,7 @@
 -- A set whose test says a property on 1 to n is the list of the numbers with it, and what two
 -- such sets leave is the list of the numbers with neither property. Each number of a set of
 -- numbers 1 to n is one of them, and the tests decide the properties.
-use Rattle.counting.proofs.Common.{◌≡◌, ℕ, List, Bool, true, false, not, ◌&&◌, ◌||◌, ◌∙◌, sym, ap, ◌↔◌, arith, both_ways, true≢false, mem-within, set-part, Within, mem, IsRisingIn, Lists}
+use Rattle.graph_core.proofs.from_counting.Common.{◌≡◌, ℕ, List, Bool, true, false, not, ◌&&◌, ◌||◌, ◌∙◌, sym, ap, ◌↔◌, arith, both_ways, true≢false, mem-within, set-part, Within, mem, IsRisingIn, Lists}
 
 -- a set whose test says the property
 pub listed : (n : ℕ) (xs : List ℕ) (P : ℕ → Type 0) → IsRisingIn n xs → ((v : ℕ) → Within n v → (mem xs v ≡ true) ↔ P v) → Lists n xs P

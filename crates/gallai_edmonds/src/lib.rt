@@ -11,5 +11,7 @@
 
 mod three_sets;
 
+// Passed on to the crates above.
 pub use graph_core::ThreeSets;
+pub use graph_facts;
 pub use three_sets::{sets, sets_of};

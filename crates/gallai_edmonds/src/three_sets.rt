@@ -1,12 +1,12 @@
 //! The three sets.
 ghost use Rattle.std.specs.Prelude.{◌≤◌, IfOk};
-ghost use Rattle.counting.specs.Common.{Lists};
+ghost use Rattle.graph_core.specs.from_counting.Common.{Lists};
 ghost use Rattle.graph_core.specs.Common.{InD, InA, InC};
 
+use graph_core::vset_core::VSet;
 use graph_core::{MultiGraph, ThreeSets};
 use graph_facts::Facts;
 use std::alloc::{AllocError as Memory, Global};
-use vset_core::VSet;
 
 /// The Gallai-Edmonds sets of `g`. The only error is `Memory`.
 pub fn sets(alloc: Global, g: &MultiGraph) -> Result<ThreeSets, Memory>

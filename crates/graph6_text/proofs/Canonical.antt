@@ -1,7 +1,7 @@
 -- A text without header and line end that is accepted is the text of its graph. Idea: its bits
 -- can be read off the edges that they choose, and are written again as its bytes; and the size
 -- has one form.
-use Rattle.counting.proofs.Common.{◌≡◌, ℕ, ◌+◌, ◌*◌, ◌/◌, ◌%◌, ◌<◌, ◌≤◌, ◌==◌, Bool, true, false, cond, List, [], ◌∷◌, ◌++◌, length, map, take, drop, Some, None, Ok, refl, sym, ap, ◌∙◌, arith, leb, eqb-true, leb-true, take-append-drop, eqb-false, cond-true, cond-false, and_parts, le-leb, lt-leb, list_all, list_any, none}
+use Rattle.graph_core.proofs.from_counting.Common.{◌≡◌, ℕ, ◌+◌, ◌*◌, ◌/◌, ◌%◌, ◌<◌, ◌≤◌, ◌==◌, Bool, true, false, cond, List, [], ◌∷◌, ◌++◌, length, map, take, drop, Some, None, Ok, refl, sym, ap, ◌∙◌, arith, leb, eqb-true, leb-true, take-append-drop, eqb-false, cond-true, cond-false, and_parts, le-leb, lt-leb, list_all, list_any, none}
 use Rattle.graph_core.proofs.Common.{Graph, IsSimple, adjacent, adjacent-ends}
 use Rattle.graph6_text.specs.Common.{byte_of, is_digit, bits_of, bytes_of, column_pairs, Fault, first_fault, faults_of, is_long, digit_at, order_of, data_of, filling_of, graph_of_bits, body_of, outcome_of, size_of, adjacency_bits, graph6_of}
 use Rattle.graph6_text.proofs.Columns.{length-column_pairs, distinct_column_pairs}

@@ -1,9 +1,9 @@
 -- The pairs whose bit is set, in order: they are the edges that the loop has collected at its end.
 -- Idea: induction on the pairs and their bits together. Whether any of the bits is set.
-use Rattle.counting.proofs.Common.{◌≡◌, ℕ, ◌+◌, ◌≤◌, ◌||◌, ◌∙◌, Bool, true, false, List, [], ◌∷◌, ◌++◌, drop, length, slice_get, refl, ap, arith, append_assoc, nat_lt, Option, Some, None, drop_all, drop_more, slice_get_within, cases_Bool, get_or_from_slice_get, list_any, nat_tests, append-nil, length-append}
-use Rattle.line_text.specs.declared.faults.FaultKind.{FaultKind}
-use Rattle.line_text.specs.declared.faults.TextFault.{TextFault}
-use Rattle.line_text.specs.declared.faults.TextFault.TheVariants as fault
+use Rattle.graph_core.proofs.from_counting.Common.{◌≡◌, ℕ, ◌+◌, ◌≤◌, ◌||◌, ◌∙◌, Bool, true, false, List, [], ◌∷◌, ◌++◌, drop, length, slice_get, refl, ap, arith, append_assoc, nat_lt, Option, Some, None, drop_all, drop_more, slice_get_within, cases_Bool, get_or_from_slice_get, list_any, nat_tests, append-nil, length-append}
+use Rattle.graph_core.specs.from_line_text.declared.faults.FaultKind.{FaultKind}
+use Rattle.graph_core.specs.from_line_text.declared.faults.TextFault.{TextFault}
+use Rattle.graph_core.specs.from_line_text.declared.faults.TextFault.TheVariants as fault
 use Rattle.graph6_text.specs.Common.{IsFirstFaultOfRows, limit_row, chosen, chosen_one}
 
 pub chosen-no_bits : (pairs : List (ℕ × ℕ)) → chosen pairs [] ≡ []

@@ -1,6 +1,6 @@
 -- The chosen pairs of a column come one after the other, and so do those of the columns. Idea: the
 -- bits of a pair, or of a column, are taken off the front.
-use Rattle.counting.proofs.Common.{◌≡◌, ℕ, ◌+◌, ◌<◌, ◌≤◌, Bool, true, false, List, [], ◌∷◌, ◌++◌, length, drop, get_or, slice_get, Some, refl, sym, ap, ◌∙◌, arith, drop_all, drop_more, get_or-drop, length-drop, append-nil, get_or_from_slice_get, length-append}
+use Rattle.graph_core.proofs.from_counting.Common.{◌≡◌, ℕ, ◌+◌, ◌<◌, ◌≤◌, Bool, true, false, List, [], ◌∷◌, ◌++◌, length, drop, get_or, slice_get, Some, refl, sym, ap, ◌∙◌, arith, drop_all, drop_more, get_or-drop, length-drop, append-nil, get_or_from_slice_get, length-append}
 use Rattle.graph6_text.specs.Common.{chosen, chosen_one, column, column_pairs, pair_count}
 use Rattle.graph6_text.proofs.Choosing.{chosen-no_bits, chosen_step}
 use Rattle.graph6_text.proofs.Columns.{column_drop, column_pairs-zero, column_pairs-next, columns_front, length-column, length-column_pairs, length-next}

@@ -1,7 +1,7 @@
 -- The pairs of vertices by columns are the pairs i < j of 1 to n, each once, and there are n (n -
 -- 1) / 2 of them. Idea: induction on the number of columns, and within a column on the number of
 -- its pairs.
-use Rattle.counting.proofs.Common.{◌≡◌, ℕ, suc, zero, ◌+◌, ◌-◌, ◌*◌, ◌<◌, ◌≤◌, ◌||◌, Bool, true, false, List, [], ◌∷◌, ◌++◌, length, map, get_or, drop, refl, sym, ap, ◌∙◌, arith, inl, inr, append_assoc, drop_more, get_or_at, append-nil, cases_eq, get_or_append_left, or_left, or_right, nat_tests, length-append, length-map, get_or-map, list_any-append, list_any, Within}
+use Rattle.graph_core.proofs.from_counting.Common.{◌≡◌, ℕ, suc, zero, ◌+◌, ◌-◌, ◌*◌, ◌<◌, ◌≤◌, ◌||◌, Bool, true, false, List, [], ◌∷◌, ◌++◌, length, map, get_or, drop, refl, sym, ap, ◌∙◌, arith, inl, inr, append_assoc, drop_more, get_or_at, append-nil, cases_eq, get_or_append_left, or_left, or_right, nat_tests, length-append, length-map, get_or-map, list_any-append, list_any, Within}
 use Rattle.graph_core.proofs.Common.{pair_of}
 use Rattle.graph_core.specs.declared.ends.Ends.{Ends}
 use Rattle.graph6_text.specs.Common.{column, column_pairs, pair_count}

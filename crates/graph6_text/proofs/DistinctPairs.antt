@@ -1,6 +1,6 @@
 -- Lists of pairs of which no two are the same two numbers. Idea: among such pairs the bits that
 -- choose some can be read off the chosen ones, and each edge of a graph is chosen at most once.
-use Rattle.counting.proofs.Common.{◌≡◌, ℕ, suc, zero, ◌+◌, ◌<◌, ◌≤◌, ◌&&◌, ◌||◌, Bool, true, false, cond, List, [], ◌∷◌, ◌++◌, length, map, take, get_or, refl, ap, ap₂, ◌∙◌, arith, or_from, or_left, both_ways, cases_order, list_any}
+use Rattle.graph_core.proofs.from_counting.Common.{◌≡◌, ℕ, suc, zero, ◌+◌, ◌<◌, ◌≤◌, ◌&&◌, ◌||◌, Bool, true, false, cond, List, [], ◌∷◌, ◌++◌, length, map, take, get_or, refl, ap, ap₂, ◌∙◌, arith, or_from, or_left, both_ways, cases_order, list_any}
 use Rattle.graph_core.proofs.Common.{Graph, IsSimple, joins}
 use Rattle.graph6_text.specs.Common.{chosen}
 

@@ -1,11 +1,11 @@
 -- What the checks of a body say about it. Idea: where no error of a list of tests is first, each
 -- test fails; and the first error of two lists of tests is that of the one, or else that of the
 -- other.
-use Rattle.counting.proofs.Common.{◌≡◌, ℕ, ◌<◌, ◌≤◌, ◌==◌, Bool, true, false, cond, List, [], ◌∷◌, ◌++◌, length, take, drop, Option, Some, None, Ok, Err, refl, ap, ◌∙◌, arith, nat_lt, list_all, list_any}
-use Rattle.line_text.specs.Common.{IsFault}
-use Rattle.line_text.specs.declared.faults.FaultKind.TheVariants.{Padding}
-use Rattle.line_text.specs.declared.faults.TextFault.{TextFault}
-use Rattle.line_text.specs.declared.faults.TextFault.TheVariants as fault
+use Rattle.graph_core.proofs.from_counting.Common.{◌≡◌, ℕ, ◌<◌, ◌≤◌, ◌==◌, Bool, true, false, cond, List, [], ◌∷◌, ◌++◌, length, take, drop, Option, Some, None, Ok, Err, refl, ap, ◌∙◌, arith, nat_lt, list_all, list_any}
+use Rattle.graph_core.specs.from_line_text.Common.{IsFault}
+use Rattle.graph_core.specs.from_line_text.declared.faults.FaultKind.TheVariants.{Padding}
+use Rattle.graph_core.specs.from_line_text.declared.faults.TextFault.{TextFault}
+use Rattle.graph_core.specs.from_line_text.declared.faults.TextFault.TheVariants as fault
 use Rattle.graph6_text.specs.Common.{is_digit, bits_of, column_pairs, chosen, limit_row, Checks, IsFirstFaultOfRows, Fault, first_fault, faults_of, is_long, order_of, data_of, data_len, graph_of_bits, graph_unless, body_of, outcome_of}
 use Rattle.graph6_text.proofs.SixBits.{length-bits_of}
 use Rattle.graph6_text.proofs.Columns.{length-column_pairs}

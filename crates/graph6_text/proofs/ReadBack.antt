@@ -1,7 +1,7 @@
 -- The text of a graph is accepted, with a graph of the same order and the same adjacent pairs.
 -- Idea: each of its bytes writes a digit, so nothing is removed from it; the bits that are read are
 -- those that were written, with zeros after them.
-use Rattle.counting.proofs.Common.{◌≡◌, ℕ, ◌+◌, ◌-◌, ◌/◌, ◌%◌, ◌<◌, ◌≤◌, ◌≢◌, ◌==◌, ◌&&◌, Bool, true, false, cond, List, [], ◌∷◌, ◌++◌, length, map, take, drop, None, refl, sym, ap, ap₂, ◌∙◌, arith, leb, ltb, inl, inr, subst, codes, nat_eq, get_or, ne_eqb, le-ltb, drop_at, not_from_true, cond-false, Decides-eqb, list_all-append, ends_is, starts_with, ends_with, and_parts, and_from, and_left, or_from, both_ways, cases_lt, cases_order, false_from_ne_true, lt-leb, length-map, list_all, list_any, none}
+use Rattle.graph_core.proofs.from_counting.Common.{◌≡◌, ℕ, ◌+◌, ◌-◌, ◌/◌, ◌%◌, ◌<◌, ◌≤◌, ◌≢◌, ◌==◌, ◌&&◌, Bool, true, false, cond, List, [], ◌∷◌, ◌++◌, length, map, take, drop, None, refl, sym, ap, ap₂, ◌∙◌, arith, leb, ltb, inl, inr, subst, codes, nat_eq, get_or, ne_eqb, le-ltb, drop_at, not_from_true, cond-false, Decides-eqb, list_all-append, ends_is, starts_with, ends_with, and_parts, and_from, and_left, or_from, both_ways, cases_lt, cases_order, false_from_ne_true, lt-leb, length-map, list_all, list_any, none}
 use Rattle.graph_core.proofs.Common.{Graph, size, IsWithinLimits, adjacent, joins, adjacent-ends, adjacent-edge, adjacent_back, adjacent_within}
 use Rattle.graph6_text.specs.Common.{byte_of, is_digit, bits_of, bytes_of, column_pairs, chosen, without_header, without_line_end, first_fault, faults_of, is_long, order_of, data_of, data_len, pair_count, filling_of, graph_of_bits, body_of, size_of, adjacency_bits, graph6_of, ReadsBack}
 use Rattle.graph6_text.proofs.Canonical.{digit_bounds, size-short, size-long, order-short, order-long, present-adjacent, simple-graph_of}

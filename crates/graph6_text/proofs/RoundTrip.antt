@@ -1,7 +1,7 @@
 -- Bits that are written as bytes are read again, with zeros after them; and bytes that are read as
 -- bits are written again, if only zeros follow the bits. Idea: six bits and a digit determine each
 -- other, by division; then six by six.
-use Rattle.counting.proofs.Common.{◌≡◌, ℕ, suc, zero, ◌+◌, ◌*◌, ◌/◌, ◌%◌, ◌<◌, ◌==◌, Bool, true, false, cond, List, [], ◌∷◌, ◌++◌, length, take, drop, refl, sym, ap, ap₂, ◌∙◌, arith, leb, leb-true, nil_from_length, and_parts, and_from, or_parts, or_from, le-leb, append-nil, list_all, list_any, bit}
+use Rattle.graph_core.proofs.from_counting.Common.{◌≡◌, ℕ, suc, zero, ◌+◌, ◌*◌, ◌/◌, ◌%◌, ◌<◌, ◌==◌, Bool, true, false, cond, List, [], ◌∷◌, ◌++◌, length, take, drop, refl, sym, ap, ap₂, ◌∙◌, arith, leb, leb-true, nil_from_length, and_parts, and_from, or_parts, or_from, le-leb, append-nil, list_all, list_any, bit}
 use Rattle.graph6_text.specs.Common.{byte_of, digit_of, is_digit, weights, bits_of_digit, bits_value, digit_of_bits, bits_of, bytes_of}
 use Rattle.graph6_text.proofs.SixBits.{digit_of_bits-lt, bits_of-nil, bits_of-cons}
 

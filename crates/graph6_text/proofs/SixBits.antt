@@ -1,7 +1,7 @@
 -- Six bits and a digit below 64 determine each other, and so do bits and the bytes that write
 -- them, six bits in each. Idea: the weights halve, so that a digit's quotients by them are known
 -- one after the other; then by induction in steps of six.
-use Rattle.counting.proofs.Common.{◌≡◌, ℕ, zero, suc, ◌+◌, ◌-◌, ◌/◌, ◌%◌, ◌^◌, ◌==◌, slice_get, Some, ◌*◌, ◌<◌, ◌≤◌, Bool, true, false, cond, List, [], ◌∷◌, ◌++◌, length, take, drop, get_or, refl, sym, ap, ◌∙◌, arith, inl, inr, min, append_assoc, take_at, drop_at, drop_more, drop_all, nil_from_length, append-nil, length-append, take_all, cases_lt}
+use Rattle.graph_core.proofs.from_counting.Common.{◌≡◌, ℕ, zero, suc, ◌+◌, ◌-◌, ◌/◌, ◌%◌, ◌^◌, ◌==◌, slice_get, Some, ◌*◌, ◌<◌, ◌≤◌, Bool, true, false, cond, List, [], ◌∷◌, ◌++◌, length, take, drop, get_or, refl, sym, ap, ◌∙◌, arith, inl, inr, min, append_assoc, take_at, drop_at, drop_more, drop_all, nil_from_length, append-nil, length-append, take_all, cases_lt}
 use Rattle.graph6_text.specs.Common.{byte_of, digit_of, weights, bits_of_digit, bits_value, digit_of_bits, bits_of, bytes_of}
 
 bits_value-nil : (ws : List ℕ) → bits_value ws [] ≡ 0

@@ -1,9 +1,9 @@
 -- What the checks of a body return, each for some rows of the table of errors.
 -- Stated by: graph6_text.
 use Rattle.std.specs.Prelude.{◌≡◌, ℕ, nat_lt, Bool, List, [], ◌∷◌, length, Some, None, Result, Ok, Err}
-use Rattle.line_text.specs.declared.faults.FaultKind.TheVariants.{Limit}
-use Rattle.line_text.specs.declared.faults.TextFault.{TextFault}
-use Rattle.line_text.specs.declared.faults.TextFault.TheVariants as fault
+use Rattle.graph_core.specs.from_line_text.declared.faults.FaultKind.TheVariants.{Limit}
+use Rattle.graph_core.specs.from_line_text.declared.faults.TextFault.{TextFault}
+use Rattle.graph_core.specs.from_line_text.declared.faults.TextFault.TheVariants as fault
 use Rattle.graph6_text.specs.Reading.{Fault, first_fault}
 
 -- a check of these rows passes, or returns the first of their errors

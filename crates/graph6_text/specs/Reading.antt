@@ -4,8 +4,8 @@
 use Rattle.std.specs.Prelude.{◌≡◌, ℕ, ◌+◌, ◌*◌, ◌-◌, ◌/◌, ◌==◌, ◌&&◌, not, nat_le, nat_lt, nat_eq, Bool, if◌then◌else◌, List, [], ◌∷◌, length, take, drop, slice_index, codes, Option, Some, None, Result, Ok, Err}
 use Rattle.std.specs.List.{list_all, list_any, starts_with, ends_with}
 use Rattle.graph_core.specs.Common.{Graph, size}
-use Rattle.line_text.specs.declared.faults.FaultKind.{FaultKind}
-use Rattle.line_text.specs.declared.faults.FaultKind.TheVariants.{Missing, Extra, Range, Limit, Padding, LongForm}
+use Rattle.graph_core.specs.from_line_text.declared.faults.FaultKind.{FaultKind}
+use Rattle.graph_core.specs.from_line_text.declared.faults.FaultKind.TheVariants.{Missing, Extra, Range, Limit, Padding, LongForm}
 use Rattle.graph6_text.specs.Digits.{base, digit_of, is_digit, bits_of}
 use Rattle.graph6_text.specs.Pairs.{column_pairs, chosen}
 

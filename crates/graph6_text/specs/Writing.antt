@@ -2,7 +2,7 @@
 -- encodings").
 -- Stated by: graph6_text, mcg6_encoder. Used by: mcg6_lines, bench_outcomes, theorems.
 use Rattle.std.specs.Prelude.{◌≡◌, ℕ, ◌/◌, ◌%◌, nat_le, ◌*◌, if◌then◌else◌, Bool, List, [], ◌∷◌, ◌++◌, map, Ok}
-use Rattle.counting.specs.Common.{none}
+use Rattle.graph_core.specs.from_counting.Common.{none}
 use Rattle.graph_core.specs.Common.{Graph, IsSimple, adjacent}
 use Rattle.graph6_text.specs.Digits.{base, byte_of, bytes_of}
 use Rattle.graph6_text.specs.Pairs.{column_pairs}

@@ -5,8 +5,8 @@ ghost use Rattle.graph6_text.specs.Common.{is_digit, Checks, is_long, order_of, 
 
 use crate::body::{LONG, data, is_long, order};
 use crate::digits::{BITS, is_digit};
-use line_text::{FaultKind, TextFault};
-use vset_core::MOST_VERTICES;
+use graph_core::line_text::{FaultKind, TextFault};
+use graph_core::vset_core::MOST_VERTICES;
 
 /// The largest number of vertices that one digit writes.
 pub const MOST_SHORT: u32 = 62;

@@ -1,18 +1,18 @@
 //! Reading graph6 texts.
 ghost use Rattle.std.specs.Prelude.{◌≡◌, ◌≢◌, ◌≤◌, ◌++◌, ◌+◌, ◌*◌, ◌<◌, [], ◌∷◌, IfOk, IfErr, IsTrue, Ok, OnOk, None, length, drop, take};
 ghost use Rattle.std.specs.List.{list_all, list_any};
-ghost use Rattle.counting.specs.Common.{Within};
-ghost use Rattle.line_text.specs.Common.{IsFault};
+ghost use Rattle.graph_core.specs.from_counting.Common.{Within};
+ghost use Rattle.graph_core.specs.from_line_text.Common.{IsFault};
 ghost use Rattle.graph_core.specs.Common.{Graph, size, IsSimple, pair_of};
 ghost use Rattle.graph6_text.specs.Common.{bits_of, chosen, chosen_one, column, column_pairs, data_len, is_digit, limit_row, pair_count, Checks, IsFirstFaultOfRows, outcome_of, graph_of_bits, faults_of, first_fault, graph6_of};
 
 use crate::body::{body, data, order};
 use crate::checks::{check_body, fault, pair_count};
 use crate::digits::{BITS, is_set};
+use graph_core::line_text::{FaultKind, TextFault};
+use graph_core::vset_core::MOST_VERTICES;
 use graph_core::{Ends, MOST_EDGES, MultiGraph};
-use line_text::{FaultKind, TextFault};
 use std::alloc::Global;
-use vset_core::MOST_VERTICES;
 
 /// The graph that a graph6 text stands for. The text may begin with the header `>>graph6<<` and may
 /// end with one line end; it is a single graph. The edges are in the order of the columns of the

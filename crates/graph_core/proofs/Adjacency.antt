@@ -1,7 +1,7 @@
 -- Tightness and being covered depend on adjacency alone: they go over from a graph to one with
 -- the same adjacent pairs. A perfect matching goes over by choosing, for each of its edges, the
 -- least edge with the same ends.
-use Rattle.counting.proofs.Common.{◌≡◌, ℕ, ◌≢◌, true, cond, ◌==◌, refl, sym, ap, ◌∙◌, arith, ◌&&◌, eq-eqb, ne_eqb, ◌⊎◌, inl, inr, List, [], ◌∷◌, subst, subst₂, cases_eq, and_from, some_true, true_some, least_of, least_of_is, Within, Set, none, some}
+use Rattle.vset_core.proofs.from_counting.Common.{◌≡◌, ℕ, ◌≢◌, true, cond, ◌==◌, refl, sym, ap, ◌∙◌, arith, ◌&&◌, eq-eqb, ne_eqb, ◌⊎◌, inl, inr, List, [], ◌∷◌, subst, subst₂, cases_eq, and_from, some_true, true_some, least_of, least_of_is, Within, Set, none, some}
 use Rattle.graph_core.proofs.Carrying.{carried_set, cut_carried, image, perfect_carried}
 use Rattle.graph_core.proofs.Walks.{adjacent-edge, adjacent_from, adjacent_within, has_ends-cases, has_ends-own}
 use Rattle.graph_core.specs.Common.{IsCovered, Graph, IsGraph, first_end, has_ends, second_end, size, HasEnds, Allowed, CutIsTight, Joined, Walk, adjacent}

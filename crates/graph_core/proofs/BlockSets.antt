@@ -1,7 +1,7 @@
 -- Unions of blocks block by block: how many blocks are in them, and uncrossing at a partition. A
 -- union of blocks is counted at the first vertex of each block; uncrossing is that of the
 -- contracted graph.
-use Rattle.counting.proofs.Common.{◌≡◌, ℕ, suc, zero, ◌+◌, ◌*◌, ◌≤◌, Bool, true, false, ◌==◌, refl, sym, ap, ap₂, ◌∙◌, arith, ◌&&◌, ◌||◌, not, eq-eqb, eqb-true, inl, inr, List, length, cases_Bool, both_ways, and_parts, and_from, cases_eq, get_or-map, count_congr, some_true, true_some, total_add, total_congr, apart_denied, bit_parted, not_not, Within, bit, count, is_odd, total, mem, Set, complement, meet, minus, none, union, some}
+use Rattle.vset_core.proofs.from_counting.Common.{◌≡◌, ℕ, suc, zero, ◌+◌, ◌*◌, ◌≤◌, Bool, true, false, ◌==◌, refl, sym, ap, ap₂, ◌∙◌, arith, ◌&&◌, ◌||◌, not, eq-eqb, eqb-true, inl, inr, List, length, cases_Bool, both_ways, and_parts, and_from, cases_eq, get_or-map, count_congr, some_true, true_some, total_add, total_congr, apart_denied, bit_parted, not_not, Within, bit, count, is_odd, total, mem, Set, complement, meet, minus, none, union, some}
 use Rattle.graph_core.proofs.Blocks.{contracted-graph, contracted-size, first, in_union, place_in, place_is}
 use Rattle.graph_core.proofs.Carrying.{image, total_image}
 use Rattle.graph_core.proofs.Contraction.{tight_from_cut}

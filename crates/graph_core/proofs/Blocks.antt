@@ -1,7 +1,7 @@
 -- Merging a union of blocks contracts it in the contracted graph, so the law of contraction
 -- applies. Each vertex has one block, and the block of a place in the one partition goes to a
 -- place in the other.
-use Rattle.counting.proofs.Common.{◌≡◌, ℕ, suc, ◌+◌, ◌-◌, ◌≢◌, Bool, true, false, cond, ◌==◌, refl, sym, ap, ◌∙◌, arith, ◌&&◌, ◌||◌, eq-eqb, eqb-true, inl, inr, List, [], ◌∷◌, length, subst, cases_Bool, both_ways, true≢false, or_cases, and_from, and_left, get_or-map, length-map, bit_true, only_one, some_term, Within, bit, all_in, mem, Set, union}
+use Rattle.vset_core.proofs.from_counting.Common.{◌≡◌, ℕ, suc, ◌+◌, ◌-◌, ◌≢◌, Bool, true, false, cond, ◌==◌, refl, sym, ap, ◌∙◌, arith, ◌&&◌, ◌||◌, eq-eqb, eqb-true, inl, inr, List, [], ◌∷◌, length, subst, cases_Bool, both_ways, true≢false, or_cases, and_from, and_left, get_or-map, length-map, bit_true, only_one, some_term, Within, bit, all_in, mem, Set, union}
 use Rattle.graph_core.specs.Common.{Graph, IsGraph, first_end, second_end, size, AreBlocks, IsMerge, block, contracted, place, IsUnion, blocks_in, Merges}
 
 -- the block at the place of v contains v, if some block does

@@ -1,6 +1,6 @@
 -- A perfect matching goes over along a map of vertices and a choice of edges, and so do the edges
 -- in a cut. Sums over the images are sums over the originals.
-use Rattle.counting.proofs.Common.{◌≡◌, ℕ, ◌+◌, ◌*◌, ◌≤◌, ◌≢◌, Bool, true, false, ◌==◌, refl, sym, ap, ap₂, ◌∙◌, arith, ◌&&◌, ◌||◌, not, eq-eqb, ne_eqb, eqb-true, inl, inr, mul_comm, cases_eq, and_parts, true≢false, bit-and, count_le_one, some_le_count, some_none, total_at, total_congr, total_mul, total_none, total_swap, Within, bit, count, total, Set, none, some}
+use Rattle.vset_core.proofs.from_counting.Common.{◌≡◌, ℕ, ◌+◌, ◌*◌, ◌≤◌, ◌≢◌, Bool, true, false, ◌==◌, refl, sym, ap, ap₂, ◌∙◌, arith, ◌&&◌, ◌||◌, not, eq-eqb, ne_eqb, eqb-true, inl, inr, mul_comm, cases_eq, and_parts, true≢false, bit-and, count_le_one, some_le_count, some_none, total_at, total_congr, total_mul, total_none, total_swap, Within, bit, count, total, Set, none, some}
 use Rattle.graph_core.proofs.Edits.{degree_sum, ends_le_degree, ends_of, ends_of_is, two_ends_le_degree}
 use Rattle.graph_core.specs.Common.{Graph, IsGraph, degree, first_end, in_cut, inside, second_end, size, HasEnds, IsPerfect}
 

@@ -1,5 +1,6 @@
 -- The lemmas and definitions of this crate, passed on from one place to the crates above.
 -- Declares nothing.
+pub use Rattle.vset_core.proofs.from_counting.Common.{err_from_is_err_and}
 pub use Rattle.graph_core.specs.Common.{Graph, size, first_end, second_end, IsGraph, HasNoLoop, IsMultigraph, with_edge, with_ends, HasEnds, has_ends, in_cut, inside, connects, edges_in_cut, degree, IsBipartite, IsMatching, IsEnd, ShareNoEnd, IsPerfect, IsMaximum, HasPerfect, Allowed, Together, fits_at, is_matching, right_degree, is_perfect, has_perfect, is_allowed, has_matching_of, adjacent, Walk, reaches, IsOddClosedWalk, Hangs, IsForest, way_up, way_down, above, AreRows, node_at, parent_at, depth_at, is_even_at, IsRooted, AreTrees, IsGrowth, IsGrown, IsComponentStage, IsSide, IsLeftSide, AreSides, IsEven, is_least, IsConnected, Attains, IsBergeSet, InD, InA, InC, IsCovered, Reason, Small, Parted, Unmatched, Unallowed, IsReason, reason_of, IsVerdict, IsPairList, HoldsNew, IsLean, CutIsTight, IsTight, is_tight, IsNontrivial, is_nontrivial, HasOnlyTrivialTightCuts, canonical_shore, Merges, is_listed, canonical_list, with_cut, cuts_of, IsCanonicalCut, block, place, names_of, AreBlocks, IsPartition, singles, complement_of, insert_block, merged, IsMerge, IsPerfectAt, blocks_adjacent, edges_between, remembered, union_of_blocks, lifted, projected, IsUnion, blocks_in, block_count, IsTightAt, IsSimple, Equivalent, is_equivalent, IsClass, is_least_of_class, IsBarrier, IsBicritical, IsCutPair, is_bicritical, pair_of, are_ends, graph_of, IsWithinLimits, IsKept}
 unfoldable pub use Rattle.graph_core.specs.Common.{missed_count, Joined, joined, component_count, odd_component_count, components, contracted, quotient, classes, equivalent_pair, cut_pair}
 pub use Rattle.graph_core.proofs.Blocks.{place_is, place_in, first, carried, in_union, contracted-order, contracted-size, contracted-ends, in_first, carries, merges, contracted-graph}

@@ -1,6 +1,6 @@
 -- The numbers of 1 to n outside a list, as a list: it is increasing, it has a number if and only if
 -- the list has not, and where the list is a union of blocks so is it.
-use Rattle.counting.proofs.Common.{◌≡◌, ℕ, zero, suc, List, not, refl, ap₂, subst, sym, ◌++◌, arith, Within, complement, mem, rising_list, IsRisingIn, rising_list-rises, mem-rising_list}
+use Rattle.vset_core.proofs.from_counting.Common.{◌≡◌, ℕ, zero, suc, List, not, refl, ap₂, subst, sym, ◌++◌, arith, Within, complement, mem, rising_list, IsRisingIn, rising_list-rises, mem-rising_list}
 use Rattle.graph_core.specs.Common.{complement_of, IsUnion}
 
 -- it is the increasing list of the other numbers

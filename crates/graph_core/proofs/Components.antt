@@ -1,7 +1,7 @@
 -- The test for a walk against walks, and each vertex in exactly one component, which its least
 -- vertex represents. A walk of as many steps as there are vertices is enough, and two least
 -- vertices of one component are one.
-use Rattle.counting.proofs.Common.{◌≡◌, ℕ, ◌≤◌, true, false, refl, ap, ◌∙◌, length, arith, ◌&&◌, not, inl, inr, nat_lt, lt-ltb, ltb-true, cases_Bool, and_parts, and_from, both_ways, length-map, count_le, count_le_one, least_true, some_true, true_some, at_le_total, length-rising_list, Within, bit, count, rising_list, Set, some}
+use Rattle.vset_core.proofs.from_counting.Common.{◌≡◌, ℕ, ◌≤◌, true, false, refl, ap, ◌∙◌, length, arith, ◌&&◌, not, inl, inr, nat_lt, lt-ltb, ltb-true, cases_Bool, and_parts, and_from, both_ways, length-map, count_le, count_le_one, least_true, some_true, true_some, at_le_total, length-rising_list, Within, bit, count, rising_list, Set, some}
 use Rattle.graph_core.proofs.Walks.{IsClosed, Walk-stays, adjacent-edge, adjacent_within, flood_closed, flood_own, flood_walk, joined_back, joined_on, joined_self}
 use Rattle.graph_core.specs.Common.{component_count, components, is_least, Graph, IsGraph, Joined, adjacent, joined}
 

@@ -1,7 +1,7 @@
 -- Contracting a tight shore of a covered graph: perfect matchings go down, tight cuts go both
 -- ways, covered goes down. A perfect matching has one edge in the cut, so each vertex outside
 -- keeps its one edge and the new vertex gets one.
-use Rattle.counting.proofs.Common.{◌≡◌, ℕ, suc, ◌+◌, ◌*◌, ◌≤◌, ◌<◌, ◌≢◌, Bool, true, false, cond, ◌==◌, refl, sym, ap, ap₂, ◌∙◌, arith, ◌&&◌, ◌||◌, not, eqb-true, inl, inr, List, [], ◌∷◌, subst₂, cases_eq, and_parts, and_from, true≢false, false_from_ne_true, both_ways, not-true, nat_tests, bit_true, count_congr, only_one, odd-double, odd_pos, at_le_total, some_term, total_add, total_congr, alike_not_apart, apart_denied, Within, bit, count, is_odd, Set, complement, none}
+use Rattle.vset_core.proofs.from_counting.Common.{◌≡◌, ℕ, suc, ◌+◌, ◌*◌, ◌≤◌, ◌<◌, ◌≢◌, Bool, true, false, cond, ◌==◌, refl, sym, ap, ap₂, ◌∙◌, arith, ◌&&◌, ◌||◌, not, eqb-true, inl, inr, List, [], ◌∷◌, subst₂, cases_eq, and_parts, and_from, true≢false, false_from_ne_true, both_ways, not-true, nat_tests, bit_true, count_congr, only_one, odd-double, odd_pos, at_le_total, some_term, total_add, total_congr, alike_not_apart, apart_denied, Within, bit, count, is_odd, Set, complement, none}
 use Rattle.graph_core.proofs.Decide.{degree_congr}
 use Rattle.graph_core.proofs.Parity.{parity}
 use Rattle.graph_core.proofs.Walks.{adjacent-edge, adjacent_from, has_ends-cases}

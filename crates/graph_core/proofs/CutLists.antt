@@ -1,6 +1,6 @@
 -- Lists of cuts by canonical shores: a shore by its members, and what a list gets for it. An
 -- increasing list is fixed by its test, and of the three cases of `with_cut` each has its step.
-use Rattle.counting.proofs.Common.{◌≡◌, ℕ, ◌+◌, ◌-◌, ◌≤◌, true, false, sym, arith, ◌&&◌, not, List, [], ◌∷◌, ◌++◌, length, nat_le, subst, and_parts, and_from, count_complement, count_congr, count_mem_length, list-from_test, mem-rising_list, rising_list-rises, set-narrower, Within, IsRisingIn, mem, Set}
+use Rattle.vset_core.proofs.from_counting.Common.{◌≡◌, ℕ, ◌+◌, ◌-◌, ◌≤◌, true, false, sym, arith, ◌&&◌, not, List, [], ◌∷◌, ◌++◌, length, nat_le, subst, and_parts, and_from, count_complement, count_congr, count_mem_length, list-from_test, mem-rising_list, rising_list-rises, set-narrower, Within, IsRisingIn, mem, Set}
 use Rattle.graph_core.specs.Common.{canonical_shore, is_nontrivial, canonical_list, is_listed, with_cut}
 
 -- sizes of an increasing list as a set

@@ -1,7 +1,7 @@
 -- The tests for matchings, tightness and equivalence against the relations; each is decided.
 -- Each test goes by the edge numbers alone, so the search over all edge sets misses none.
 use Rattle.std.proofs.Common.{◌≡◌, ℕ, suc, zero, ◌+◌, ◌≢◌, Bool, true, cond, ◌==◌, sym, ap, ap₂, ◌∙◌, arith, ◌&&◌, ◌||◌, not, eq-eqb, eqb-true, ◌⊎◌, inl, inr, ◌≤◌, ◌<◌, nat_le, leb-true, le-leb, List, [], ◌∷◌}
-use Rattle.counting.proofs.Common.{cases_eq, cases_Bool, or_cases, and_parts, and_from, both_ways, not-true, nat_tests, Respects, choose_set, each_passes, implied, implies, none_fails, set_found, some_set_found, count_congr, count_le, every_congr, every_true, true_every, total_none, Within, count, is_odd, Set, complement, none, pair_set}
+use Rattle.vset_core.proofs.from_counting.Common.{cases_eq, cases_Bool, or_cases, and_parts, and_from, both_ways, not-true, nat_tests, Respects, choose_set, each_passes, implied, implies, none_fails, set_found, some_set_found, count_congr, count_le, every_congr, every_true, true_every, total_none, Within, count, is_odd, Set, complement, none, pair_set}
 use Rattle.graph_core.proofs.Walks.{adjacent-edge, has_ends-cases}
 use Rattle.graph_core.specs.Common.{IsCovered, IsReason, Reason, Small, Parted, Unmatched, Unallowed, Graph, IsGraph, IsMultigraph, degree, edges_in_cut, first_end, in_cut, second_end, size, Allowed, HasPerfect, IsMatching, IsMaximum, IsPerfect, fits_at, has_perfect, is_allowed, is_matching, is_perfect, right_degree, Equivalent, is_equivalent, CutIsTight, IsTight, is_tight, Joined, Walk, adjacent}
 

@@ -1,6 +1,6 @@
 -- A set of edges after one edge is put in or taken out: degrees, sizes, and what it misses.
 -- Only one term of each sum changes.
-use Rattle.counting.proofs.Common.{◌≡◌, ℕ, suc, zero, ◌+◌, ◌*◌, ◌≤◌, ◌<◌, ◌≢◌, Bool, true, false, ◌==◌, refl, sym, ap, ◌∙◌, arith, ◌&&◌, not, eq-eqb, ne_eqb, ◌⊎◌, inl, inr, cases_eq, cases_Bool, both_ways, cases_order, count_put, total_put, at_le_total, some_term, total_add, total_congr, total_zero, two_le_total, bit_and_false, bit_and_true, Within, bit, count, total, Set, put}
+use Rattle.vset_core.proofs.from_counting.Common.{◌≡◌, ℕ, suc, zero, ◌+◌, ◌*◌, ◌≤◌, ◌<◌, ◌≢◌, Bool, true, false, ◌==◌, refl, sym, ap, ◌∙◌, arith, ◌&&◌, not, eq-eqb, ne_eqb, ◌⊎◌, inl, inr, cases_eq, cases_Bool, both_ways, cases_order, count_put, total_put, at_le_total, some_term, total_add, total_congr, total_zero, two_le_total, bit_and_false, bit_and_true, Within, bit, count, total, Set, put}
 use Rattle.graph_core.proofs.Parity.{degrees}
 use Rattle.graph_core.proofs.Walks.{adjacent-edge, has_ends-cases}
 pub use Rattle.graph_core.specs.Graph.{HasEnds}

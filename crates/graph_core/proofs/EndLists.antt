@@ -1,7 +1,7 @@
 -- An edge joins two vertices where an item of the list of ends has them. Idea: edge e is item e -
 -- 1, so that "some of the first k edges" is "some of the first k items", by induction on k.
 use Rattle.std.proofs.Common.{◌≡◌, ℕ, suc, zero, ◌-◌, ◌≤◌, Bool, ◌==◌, ◌&&◌, ◌||◌, List, length, take, take_all, get_or, refl, ap, ◌∙◌, arith, le_refl}
-use Rattle.counting.proofs.Common.{list_any_more, list_any, none, some}
+use Rattle.vset_core.proofs.from_counting.Common.{list_any_more, list_any, none, some}
 use Rattle.graph_core.specs.Common.{Graph, adjacent}
 
 -- the two numbers of the pair are u and v, in either order

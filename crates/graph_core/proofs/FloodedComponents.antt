@@ -1,6 +1,6 @@
 -- A flood from a vertex that stays in a set finds what walks in the set lead to. Idea: it is the
 -- least set with the root that no step leaves.
-use Rattle.counting.proofs.Common.{◌≡◌, ℕ, List, [], ◌∷◌, true, ◌==◌, refl, sym, ap, ◌∙◌, arith, subst, eq-eqb, eqb-true, not-false, same_tests, Within, mem, Set, complement}
+use Rattle.vset_core.proofs.from_counting.Common.{◌≡◌, ℕ, List, [], ◌∷◌, true, ◌==◌, refl, sym, ap, ◌∙◌, arith, subst, eq-eqb, eqb-true, not-false, same_tests, Within, mem, Set, complement}
 use Rattle.graph_core.specs.Common.{Graph, IsGraph, AreRows, Joined, Walk, adjacent, joined}
 use Rattle.graph_core.proofs.Components.{joined_walk, walk_joined}
 use Rattle.graph_core.proofs.Walks.{adjacent-edge, joined_on, joined_self}

@@ -2,7 +2,7 @@
 -- the list hold at the end? The components, in the order of their least vertices, and the trees
 -- of the searches are one forest.
 use Rattle.std.proofs.Common.{◌≡◌, ℕ, suc, zero, ◌<◌, Bool, true, false, ◌==◌, refl, sym, ap, ap₂, ◌∙◌, arith, ◌&&◌, not, ◌⊎◌, inl, inr, List, [], ◌∷◌, ◌++◌, subst, eq-eqb, eqb-true, ne_eqb, cond, map, append_assoc, append-nil, nat_lt, ltb-true}
-use Rattle.counting.proofs.Common.{not_from_false, and_from, and_parts, both_ways, cases_Bool, cases_eq, false_from_ne_true, not-true, not-false, or_parts, rising_list-congr, rising_list-rises, mem-rising_list, same_rising_list, some_true, not_but_parts, or_fails_first, same_tests, and_false, and_true, Within, IsRisingIn, mem, rising_list, Set, complement, meet, minus, union, some}
+use Rattle.vset_core.proofs.from_counting.Common.{not_from_false, and_from, and_parts, both_ways, cases_Bool, cases_eq, false_from_ne_true, not-true, not-false, or_parts, rising_list-congr, rising_list-rises, mem-rising_list, same_rising_list, some_true, not_but_parts, or_fails_first, same_tests, and_false, and_true, Within, IsRisingIn, mem, rising_list, Set, complement, meet, minus, union, some}
 use Rattle.graph_core.specs.Common.{components, is_least, Graph, IsGraph, IsComponentStage, Hangs, IsForest, Joined, Walk, adjacent, joined}
 use Rattle.graph_core.proofs.Components.{joined_walk, walk_joined}
 use Rattle.graph_core.proofs.Trees.{adjacent_more, hangs_more, joined_more, least_same}

@@ -1,7 +1,7 @@
 -- A search from one vertex takes vertices from the set that is left and hangs each on one that
 -- was found before. What has it found when no found vertex has a neighbour left? A component: it
 -- is closed under steps, and the tree gives a walk to each of its vertices.
-use Rattle.counting.proofs.Common.{◌≡◌, ℕ, ◌+◌, ◌≤◌, true, false, ◌==◌, refl, sym, ap, ◌∙◌, arith, ◌&&◌, not, inl, inr, subst, eq-eqb, eqb-true, ne_eqb, not_from_false, and_from, and_parts, both_ways, cases_eq, or_right, not-true, not-false, count_le, count_more, not_but_parts, same_tests, or_false, Within, count, Set, complement, minus}
+use Rattle.vset_core.proofs.from_counting.Common.{◌≡◌, ℕ, ◌+◌, ◌≤◌, true, false, ◌==◌, refl, sym, ap, ◌∙◌, arith, ◌&&◌, not, inl, inr, subst, eq-eqb, eqb-true, ne_eqb, not_from_false, and_from, and_parts, both_ways, cases_eq, or_right, not-true, not-false, count_le, count_more, not_but_parts, same_tests, or_false, Within, count, Set, complement, minus}
 use Rattle.graph_core.specs.Common.{Graph, IsGraph, IsGrowth, IsGrown, Hangs, Joined, adjacent, joined}
 use Rattle.graph_core.proofs.Components.{joined_walk, walk_joined}
 use Rattle.graph_core.proofs.Trees.{StandsAt, above_joined, above_root, adjacent_more, joined_more}

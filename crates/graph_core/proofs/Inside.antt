@@ -1,6 +1,6 @@
 -- The edges of m inside a set x: at a vertex of x they are those of m if none crosses x, and off x
 -- there are none.
-use Rattle.counting.proofs.Common.{◌≡◌, ℕ, ◌+◌, Bool, true, false, ◌==◌, ap, ap₂, ◌∙◌, arith, ◌&&◌, ◌||◌, not, eqb-true, total_congr, total_none, Within, bit, Set}
+use Rattle.vset_core.proofs.from_counting.Common.{◌≡◌, ℕ, ◌+◌, Bool, true, false, ◌==◌, ap, ap₂, ◌∙◌, arith, ◌&&◌, ◌||◌, not, eqb-true, total_congr, total_none, Within, bit, Set}
 use Rattle.graph_core.specs.Common.{Graph, degree, first_end, in_cut, inside, second_end, size}
 
 first : (a b c t : Bool) → (t ≡ true → b ≡ true) → (a && ((b && not c) || (not b && c))) ≡ false → ((a && (b && c)) && t) ≡ (a && t)

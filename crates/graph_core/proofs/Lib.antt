@@ -38,3 +38,6 @@ pub mod ShoreLists
 pub mod CutLists
 pub mod Inside
 pub mod Common
+-- Passed on to the crates above: from_NAME is all that the crate NAME has in its folder of this name.
+pub use Rattle.vset_core.proofs.from_counting as from_counting
+pub use Rattle.line_text.proofs as from_line_text

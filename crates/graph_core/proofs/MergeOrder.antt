@@ -1,6 +1,6 @@
 -- Merging keeps the names of blocks in increasing order. Each name is below all later ones, and the
 -- new name is none of the kept ones.
-use Rattle.counting.proofs.Common.{◌≡◌, ℕ, suc, zero, ◌+◌, ◌-◌, ◌≤◌, ◌<◌, Bool, true, false, not, cond, List, [], ◌∷◌, length, refl, sym, ap, ◌∙◌, arith, ◌⊎◌, inl, inr, subst, filter, nat_lt, All, slice_index, slice_index_or, IsStrictlyIncreasing, both_ways, cases_lt, nat_tests, Within, last_of, mem}
+use Rattle.vset_core.proofs.from_counting.Common.{◌≡◌, ℕ, suc, zero, ◌+◌, ◌-◌, ◌≤◌, ◌<◌, Bool, true, false, not, cond, List, [], ◌∷◌, length, refl, sym, ap, ◌∙◌, arith, ◌⊎◌, inl, inr, subst, filter, nat_lt, All, slice_index, slice_index_or, IsStrictlyIncreasing, both_ways, cases_lt, nat_tests, Within, last_of, mem}
 use Rattle.graph_core.proofs.Merging.{Has, block_of, filter_has, has_block, insert_has, mem_last, merged_partition}
 use Rattle.graph_core.proofs.SameBlocks.{Ordered, rising_ordered}
 use Rattle.graph_core.specs.Common.{IsPartition, insert_block, merged, names_of, IsUnion}

@@ -1,6 +1,6 @@
 -- Unions of blocks before and after a merge, how many blocks they hold, and the law of
 -- contraction for them. The merged blocks are one block then, and all others stay.
-use Rattle.counting.proofs.Common.{◌≡◌, ℕ, ◌+◌, ◌≢◌, true, false, sym, ap, ◌∙◌, arith, ◌⊎◌, inl, inr, List, length, cases_Bool, both_ways, total_at, and_implied, but_not, Within, bit, mem, Set, meet, minus}
+use Rattle.vset_core.proofs.from_counting.Common.{◌≡◌, ℕ, ◌+◌, ◌≢◌, true, false, sym, ap, ◌∙◌, arith, ◌⊎◌, inl, inr, List, length, cases_Bool, both_ways, total_at, and_implied, but_not, Within, bit, mem, Set, meet, minus}
 use Rattle.graph_core.proofs.BlockSets.{at_place, at_rep, block_count_congr, block_count_parts, count_over, place_rep, rep, rep_in, rep_place, union_meet, union_minus}
 use Rattle.graph_core.proofs.Blocks.{carried, contracted-graph, merges, place_in, place_is}
 use Rattle.graph_core.proofs.Contraction.{covered_down}

@@ -1,6 +1,6 @@
 -- The list that merging gives is the partition with the union made one block.
 -- Each vertex is in exactly one of the kept blocks or in the new one.
-use Rattle.counting.proofs.Common.{◌≡◌, ℕ, suc, zero, ◌+◌, ◌*◌, ◌≤◌, Bool, true, false, not, cond, ◌||◌, ◌==◌, List, [], ◌∷◌, length, refl, sym, ap, ◌∙◌, arith, ◌⊎◌, inl, inr, eq-eqb, subst, filter, nat_lt, both_ways, or_left, total_congr, total-first, Within, bit, count, last_of, mem}
+use Rattle.vset_core.proofs.from_counting.Common.{◌≡◌, ℕ, suc, zero, ◌+◌, ◌*◌, ◌≤◌, Bool, true, false, not, cond, ◌||◌, ◌==◌, List, [], ◌∷◌, length, refl, sym, ap, ◌∙◌, arith, ◌⊎◌, inl, inr, eq-eqb, subst, filter, nat_lt, both_ways, or_left, total_congr, total-first, Within, bit, count, last_of, mem}
 use Rattle.graph_core.proofs.Blocks.{place_in, place_is}
 use Rattle.graph_core.specs.Common.{AreBlocks, IsMerge, block, insert_block, merged, place, IsUnion}
 

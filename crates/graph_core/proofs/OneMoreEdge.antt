@@ -1,7 +1,7 @@
 -- A graph with one more edge: its ends, that it keeps the limits of size where there is room, and
 -- that its rows are the old rows with each end of the new edge in the row of the other. Idea: the
 -- new edge is the last item of the list of ends, and "some edge joins v and w" is "some item does".
-use Rattle.counting.proofs.Common.{◌≡◌, ◌≢◌, ℕ, ◌+◌, ◌-◌, ◌<◌, ◌∷◌, [], List, length, Bool, false, ◌==◌, ◌&&◌, ◌||◌, arith, get_or_push, cases_eq, get_or_append_left, length-append, list_any-append, Within, item, mem, none}
+use Rattle.vset_core.proofs.from_counting.Common.{◌≡◌, ◌≢◌, ℕ, ◌+◌, ◌-◌, ◌<◌, ◌∷◌, [], List, length, Bool, false, ◌==◌, ◌&&◌, ◌||◌, arith, get_or_push, cases_eq, get_or_append_left, length-append, list_any-append, Within, item, mem, none}
 use Rattle.graph_core.specs.Common.{Graph, first_end, second_end, size, with_edge, AreRows, IsWithinLimits, adjacent}
 use Rattle.graph_core.proofs.EndLists.{adjacent-ends, joins}
 

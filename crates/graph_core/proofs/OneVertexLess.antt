@@ -1,6 +1,6 @@
 -- A set loses one vertex, or gains one: its values elsewhere stay, and its size changes by one.
 -- Idea: the two sets differ in one term of the count.
-use Rattle.counting.proofs.Common.{◌≡◌, ℕ, ◌+◌, true, false, ◌==◌, refl, sym, ap, ◌∙◌, arith, ◌&&◌, ◌||◌, not, inl, inr, eq-eqb, ne_eqb, and_false, and_true, or_false, and_parts, cases_eq, or_right, count_put, count_congr, Within, count, Set, put}
+use Rattle.vset_core.proofs.from_counting.Common.{◌≡◌, ℕ, ◌+◌, true, false, ◌==◌, refl, sym, ap, ◌∙◌, arith, ◌&&◌, ◌||◌, not, inl, inr, eq-eqb, ne_eqb, and_false, and_true, or_false, and_parts, cases_eq, or_right, count_put, count_congr, Within, count, Set, put}
 
 -- left' is left less w
 abbrev pub Loses : Set → ℕ → Set → Type 0

@@ -1,7 +1,8 @@
 -- |X| is the number of edges of a perfect matching in ∂(X) plus twice the number of those inside X;
 -- two cuts compared with those of X ∩ Y and X ∪ Y. Degrees are summed vertex by vertex and edge by
 -- edge.
-use Rattle.counting.proofs.Common.{◌≡◌, ℕ, ◌+◌, ◌*◌, Bool, ◌==◌, refl, sym, ap, mul-add, ap₂, ◌∙◌, arith, ◌&&◌, ◌||◌, not, bit-and, count_of_one, total_add, total_congr, total_mul, total_swap, Within, bit, count, total, Set, meet, minus, none, union}
+pub use Rattle.vset_core.proofs.from_counting.Odd.{is_odd_remainder}
+use Rattle.vset_core.proofs.from_counting.Common.{◌≡◌, ℕ, ◌+◌, ◌*◌, Bool, ◌==◌, refl, sym, ap, mul-add, ap₂, ◌∙◌, arith, ◌&&◌, ◌||◌, not, bit-and, count_of_one, total_add, total_congr, total_mul, total_swap, Within, bit, count, total, Set, meet, minus, none, union}
 use Rattle.graph_core.specs.Common.{Graph, IsGraph, connects, degree, first_end, in_cut, inside, second_end, size, IsPerfect}
 
 -- the ends in x, vertex by vertex, are those edge by edge

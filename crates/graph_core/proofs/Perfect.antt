@@ -1,6 +1,6 @@
 -- A matching is perfect exactly if it misses no vertex outside the removed ones.
 -- A count is 0 exactly if no number passes the test.
-use Rattle.counting.proofs.Common.{◌≡◌, ℕ, ◌≤◌, false, ◌==◌, refl, arith, ◌&&◌, not, ne_eqb, total_none, at_le_total, Within, bit, Set}
+use Rattle.vset_core.proofs.from_counting.Common.{◌≡◌, ℕ, ◌≤◌, false, ◌==◌, refl, arith, ◌&&◌, not, ne_eqb, total_none, at_le_total, Within, bit, Set}
 use Rattle.graph_core.specs.Common.{Graph, degree, IsMatching, IsPerfect, missed_count}
 
 pub perfect_matching : (g : Graph) (r m : Set) → IsPerfect g r m → IsMatching g r m

@@ -1,6 +1,6 @@
 -- A set of blocks is tight in the quotient if and only if it is in the contracted graph. Perfect
 -- matchings go over both ways by the least edge with the same ends.
-use Rattle.counting.proofs.Common.{◌≡◌, ℕ, ◌<◌, ◌≢◌, true, not, ◌==◌, List, length, refl, sym, ap, ◌∙◌, arith, inl, inr, subst, ne_eqb, and_parts, and_from, cases_lt, least_of, least_of_is, some_true, true_some, Within, Set, some}
+use Rattle.vset_core.proofs.from_counting.Common.{◌≡◌, ℕ, ◌<◌, ◌≢◌, true, not, ◌==◌, List, length, refl, sym, ap, ◌∙◌, arith, inl, inr, subst, ne_eqb, and_parts, and_from, cases_lt, least_of, least_of_is, some_true, true_some, Within, Set, some}
 use Rattle.graph_core.proofs.Adjacency.{has_ends-from}
 use Rattle.graph_core.proofs.Blocks.{contracted-graph, contracted-order, contracted-size}
 use Rattle.graph_core.proofs.Carrying.{carried_set, cut_carried, perfect_carried}

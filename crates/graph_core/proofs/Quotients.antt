@@ -1,6 +1,6 @@
 -- The edges of the quotient are exactly the adjacent pairs of places.
 -- By the list of pairs in lexicographic order, filtered.
-use Rattle.counting.proofs.Common.{◌≡◌, ℕ, suc, ◌-◌, ◌<◌, true, List, length, refl, ap, ◌∙◌, arith, get_or, nat_lt, nat_tests, rising_holds, rising_only, at_pair, filter_pair, pair_at, pair_filter, rows_hold, rows_only, Within, rising_list, rising_pairs, everything}
+use Rattle.vset_core.proofs.from_counting.Common.{◌≡◌, ℕ, suc, ◌-◌, ◌<◌, true, List, length, refl, ap, ◌∙◌, arith, get_or, nat_lt, nat_tests, rising_holds, rising_only, at_pair, filter_pair, pair_at, pair_filter, rows_hold, rows_only, Within, rising_list, rising_pairs, everything}
 use Rattle.graph_core.specs.Common.{Graph, first_end, second_end, size, blocks_adjacent, quotient}
 
 -- the quotient has a vertex for each block

@@ -1,6 +1,6 @@
 -- The intersection of a row of the adjacency matrix with the set of vertices that are left is the
 -- set of neighbours that are left.
-use Rattle.counting.proofs.Common.{◌≡◌, ℕ, ◌-◌, true, false, ◌&&◌, sym, ◌∙◌, arith, List, [], length, get_or, and_parts, both_ways, false_from_ne_true, and_from, get_or_read, Within, mem, none}
+use Rattle.vset_core.proofs.from_counting.Common.{◌≡◌, ℕ, ◌-◌, true, false, ◌&&◌, sym, ◌∙◌, arith, List, [], length, get_or, and_parts, both_ways, false_from_ne_true, and_from, get_or_read, Within, mem, none}
 use Rattle.graph_core.specs.Common.{Graph, AreRows, adjacent}
 
 -- the row that was read for v holds the vertices adjacent to v

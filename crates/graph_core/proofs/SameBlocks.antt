@@ -1,6 +1,6 @@
 -- A partition is fixed by its relation "in the same block": two partitions with the same relation
 -- are equal as lists. They have the same blocks, and increasing names allow only one order.
-use Rattle.counting.proofs.Common.{List, [], ap, ap₂, arith, inl, inr, refl, subst, suc, sym, true, ℕ, ◌+◌, ◌<◌, ◌∙◌, ◌∷◌, ◌≡◌, slice_index, slice_index_or, IsStrictlyIncreasing, same_tests, mem-item, same_rising_list, Within, IsRisingIn, last_of, mem}
+use Rattle.vset_core.proofs.from_counting.Common.{List, [], ap, ap₂, arith, inl, inr, refl, subst, suc, sym, true, ℕ, ◌+◌, ◌<◌, ◌∙◌, ◌∷◌, ◌≡◌, slice_index, slice_index_or, IsStrictlyIncreasing, same_tests, mem-item, same_rising_list, Within, IsRisingIn, last_of, mem}
 use Rattle.graph_core.proofs.Blocks.{place_in, place_is}
 use Rattle.graph_core.proofs.Merging.{Has, block_has, has_block}
 use Rattle.graph_core.specs.Common.{IsPartition, block, names_of, place}

@@ -1,6 +1,6 @@
 -- Sets with the same vertices: they have the same cut, and are tight and nontrivial together.
 -- Each is said vertex by vertex, so it goes over term by term.
-use Rattle.counting.proofs.Common.{◌≡◌, ℕ, sym, ap₂, ◌∙◌, ◌&&◌, ◌||◌, not, arith, count_congr, Within, Set, complement}
+use Rattle.vset_core.proofs.from_counting.Common.{◌≡◌, ℕ, sym, ap₂, ◌∙◌, ◌&&◌, ◌||◌, not, arith, count_congr, Within, Set, complement}
 use Rattle.graph_core.specs.Common.{Graph, IsGraph, first_end, second_end, size, CutIsTight, IsNontrivial, IsTight}
 
 -- the same cut is tight

@@ -1,6 +1,6 @@
 -- A tight shore as a list: it is not empty, and the list of the other numbers is the other shore,
 -- which is tight as well. An odd number of blocks is at least one, and each block has a vertex.
-use Rattle.counting.proofs.Common.{ℕ, ◌<◌, ◌≤◌, List, length, sym, arith, bit_true, some-member, odd_pos, all_in_true, some_term, bit, count, mem, complement}
+use Rattle.vset_core.proofs.from_counting.Common.{ℕ, ◌<◌, ◌≤◌, List, length, sym, arith, bit_true, some-member, odd_pos, all_in_true, some_term, bit, count, mem, complement}
 use Rattle.graph_core.proofs.BlockSets.{tight_congr, tight_rest}
 use Rattle.graph_core.proofs.Complements.{mem-complement_of}
 use Rattle.graph_core.specs.Common.{Graph, IsGraph, AreBlocks, block, complement_of, contracted, IsTightAt, blocks_in}

@@ -1,6 +1,6 @@
 -- The law of contraction for shores at a partition and at a merge of it. A union of the new
 -- blocks is a union of the old ones, block by block, so the contracted graphs can be compared.
-use Rattle.counting.proofs.Common.{◌≡◌, ℕ, sym, ap, ◌∙◌, List, Within, Set}
+use Rattle.vset_core.proofs.from_counting.Common.{◌≡◌, ℕ, sym, ap, ◌∙◌, List, Within, Set}
 use Rattle.graph_core.proofs.Blocks.{carried, carries, contracted-graph, first, in_first, in_union, merges, place_in}
 use Rattle.graph_core.proofs.Contraction.{covered_down, tight_down, tight_from_cut, tight_up}
 use Rattle.graph_core.proofs.Decide.{covered_perfect}

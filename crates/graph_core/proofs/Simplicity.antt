@@ -1,6 +1,6 @@
 -- A graph is simple if no edge has the ends of an earlier one. Idea: of two edges with the same
 -- ends one is earlier, and "has the ends of" is symmetric.
-use Rattle.counting.proofs.Common.{◌≡◌, ℕ, ◌-◌, Bool, true, false, arith, inl, inr, both_ways, cases_lt, cases_eq, some_true, some_none, Within, some}
+use Rattle.vset_core.proofs.from_counting.Common.{◌≡◌, ℕ, ◌-◌, Bool, true, false, arith, inl, inr, both_ways, cases_lt, cases_eq, some_true, some_none, Within, some}
 use Rattle.graph_core.specs.Common.{Graph, size, first_end, second_end, has_ends, IsSimple}
 
 -- edge f has the ends of edge e

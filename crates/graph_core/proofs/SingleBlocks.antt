@@ -2,7 +2,7 @@
 -- at that partition is what is said of the graph; at any partition the edges in the cut of a
 -- union of blocks are those of the graph.
 use Rattle.std.proofs.Common.{◌≡◌, ℕ, suc, ◌+◌, ◌-◌, ◌&&◌, List, [], ◌∷◌, length, map, cond, get_or, refl, sym, ap, ap₂, ◌∙◌, arith, subst, le-leb}
-use Rattle.counting.proofs.Common.{get_or-map, count_congr, and_true, Within, count, all_in, Set}
+use Rattle.vset_core.proofs.from_counting.Common.{get_or-map, count_congr, and_true, Within, count, all_in, Set}
 use Rattle.graph_core.proofs.BlockSets.{at_place}
 use Rattle.graph_core.proofs.Blocks.{contracted-size}
 use Rattle.graph_core.proofs.SameSets.{tight-same}

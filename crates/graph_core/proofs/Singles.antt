@@ -1,7 +1,7 @@
 -- The single vertices are a partition: block i is that of i alone, and the place of a vertex is
 -- its number. By induction on the number of vertices.
 use Rattle.std.proofs.Common.{◌≡◌, ℕ, suc, zero, ◌+◌, ◌-◌, ◌≤◌, ◌<◌, Bool, true, false, cond, ◌==◌, ◌||◌, List, [], ◌∷◌, ◌++◌, length, refl, sym, ap, ◌∙◌, arith, inl, inr, eq-eqb, eqb-true, get_or, zero-add, nat_le, length-append, le-leb, subst, get_or-append-add}
-use Rattle.counting.proofs.Common.{get_or_default, IsStrictlyIncreasing, lt-leb, cases_lt, nat_tests, get_or_append_left, map-append, count_congr, rising_list-rises, set-one, count_singleton, Within, count, last_of, mem, rising_list, everything, singleton}
+use Rattle.vset_core.proofs.from_counting.Common.{get_or_default, IsStrictlyIncreasing, lt-leb, cases_lt, nat_tests, get_or_append_left, map-append, count_congr, rising_list-rises, set-one, count_singleton, Within, count, last_of, mem, rising_list, everything, singleton}
 use Rattle.graph_core.specs.Common.{IsPartition, block, names_of, place, singles}
 
 -- single vertices have their own numbers as places

@@ -1,6 +1,6 @@
 -- A matching by degrees is a set of edges of which no two share an end. Two edges at a vertex
 -- would make its degree two; where no two are there, a sum of ends is at most one.
-use Rattle.counting.proofs.Common.{◌≡◌, ℕ, suc, zero, ◌*◌, ◌≤◌, ◌≢◌, Bool, true, refl, sym, arith, inl, inr, eq-eqb, ne_eqb, cases_eq, true≢false, total_none, Within, bit, total, Set, none}
+use Rattle.vset_core.proofs.from_counting.Common.{◌≡◌, ℕ, suc, zero, ◌*◌, ◌≤◌, ◌≢◌, Bool, true, refl, sym, arith, inl, inr, eq-eqb, ne_eqb, cases_eq, true≢false, total_none, Within, bit, total, Set, none}
 use Rattle.graph_core.proofs.Edits.{degree_sum, ends_of, ends_of_is, two_ends_le_degree}
 use Rattle.graph_core.specs.Common.{Graph, HasNoLoop, IsGraph, degree, first_end, second_end, size, IsEnd, IsMatching, ShareNoEnd}
 

@@ -1,7 +1,7 @@
 -- A search tree hangs its vertices on those that were found before, so the way up from a vertex
 -- is a walk to a root, as long as the vertex is deep. Two ways up from the ends of an edge,
 -- closed by the edge, are an odd walk where the depths are alike.
-use Rattle.counting.proofs.Common.{◌≡◌, ℕ, suc, zero, ◌+◌, ◌<◌, Bool, true, false, refl, ap, ◌∙◌, arith, ◌&&◌, not, List, [], ◌∷◌, ◌++◌, length, nat_lt, lt-ltb, and_from, and_parts, both_ways, cases_order, length-append, true_some, Within, Set, some}
+use Rattle.vset_core.proofs.from_counting.Common.{◌≡◌, ℕ, suc, zero, ◌+◌, ◌<◌, Bool, true, false, refl, ap, ◌∙◌, arith, ◌&&◌, not, List, [], ◌∷◌, ◌++◌, length, nat_lt, lt-ltb, and_from, and_parts, both_ways, cases_order, length-append, true_some, Within, Set, some}
 use Rattle.graph_core.specs.Common.{is_least, Graph, IsGraph, Hangs, IsForest, way_up, way_down, above, Joined, Walk, adjacent, joined}
 use Rattle.graph_core.proofs.Components.{walk_joined}
 use Rattle.graph_core.proofs.Walks.{Walk-join, adjacent-edge, adjacent_back, adjacent_from, adjacent_within, joined_back}

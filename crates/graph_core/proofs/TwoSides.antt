@@ -1,7 +1,7 @@
 -- Along a walk the side changes with each step, so the length of a walk says whether its ends are
 -- on the same side: hence no closed walk is odd, and the left side is fixed by the least vertices.
 -- In a search tree the sides are the parities of depths.
-use Rattle.counting.proofs.Common.{◌≡◌, ℕ, suc, ◌+◌, Bool, true, false, cond, refl, sym, ap, ap₂, ◌∙◌, arith, ◌&&◌, ◌||◌, not, List, [], ◌∷◌, ◌++◌, subst, length, append_assoc, and_parts, both_ways, length-append, bit_true, odd-add, mem-rising_list, rising_list-rises, same_rising_list, some_term, Within, is_odd, mem, rising_list, Set, none}
+use Rattle.vset_core.proofs.from_counting.Common.{◌≡◌, ℕ, suc, ◌+◌, Bool, true, false, cond, refl, sym, ap, ap₂, ◌∙◌, arith, ◌&&◌, ◌||◌, not, List, [], ◌∷◌, ◌++◌, subst, length, append_assoc, and_parts, both_ways, length-append, bit_true, odd-add, mem-rising_list, rising_list-rises, same_rising_list, some_term, Within, is_odd, mem, rising_list, Set, none}
 use Rattle.graph_core.specs.Common.{is_least, Graph, IsBipartite, IsGraph, first_end, in_cut, second_end, size, IsLeftSide, IsRooted, depth_at, parent_at, IsForest, above, way_down, way_up, IsOddClosedWalk, Joined, Walk, adjacent}
 use Rattle.graph_core.specs.declared.tree.TreeNode.{TreeNode}
 use Rattle.graph_core.proofs.Components.{joined_walk, some_leader}

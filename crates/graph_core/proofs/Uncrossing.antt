@@ -1,7 +1,7 @@
 -- Uncrossing in one graph: the meet and the union of two tight shores are tight, and no edge
 -- joins their differences. The edges of a perfect matching in the two cuts are those in the cuts
 -- of meet and union and twice those between the differences.
-use Rattle.counting.proofs.Common.{◌≡◌, ℕ, ◌+◌, ◌≤◌, Bool, true, false, cond, refl, sym, ap, ◌∙◌, arith, ◌&&◌, not, inl, inr, cases_Bool, both_ways, count_meet_union, complement_odd, odd-add, odd-double, odd_pos, order_even, at_le_total, Within, bit, count, is_odd, Set, meet, minus, none, union}
+use Rattle.vset_core.proofs.from_counting.Common.{◌≡◌, ℕ, ◌+◌, ◌≤◌, Bool, true, false, cond, refl, sym, ap, ◌∙◌, arith, ◌&&◌, not, inl, inr, cases_Bool, both_ways, count_meet_union, complement_odd, odd-add, odd-double, odd_pos, order_even, at_le_total, Within, bit, count, is_odd, Set, meet, minus, none, union}
 use Rattle.graph_core.proofs.Parity.{parity, two_cuts}
 use Rattle.graph_core.specs.Common.{IsCovered, Graph, IsGraph, connects, in_cut, inside, size, IsPerfect, IsTight}
 

@@ -1,7 +1,7 @@
 -- The code's list of edges and the graph that it represents: edge e of the graph is item e - 1 of
 -- the list, so that "some edge" of the graph is "some item" of the list.
 use Rattle.std.proofs.Common.{rules, ◌≡◌, ℕ, ◌+◌, ◌≤◌, ◌<◌, ◌||◌, refl, sym, ap, ap₂, ◌∙◌, arith, suc, zero, List, length, get_or, take, take_all, le_refl, subst, eq-eqb, true, All, Contains}
-use Rattle.counting.proofs.Common.{list_any_more, list_any, get_or-map, length-map, Within, none, some}
+use Rattle.vset_core.proofs.from_counting.Common.{list_any_more, list_any, get_or-map, length-map, Within, none, some}
 use Rattle.graph_core.specs.Common.{IsGraph, first_end, second_end, has_ends, size, pair_of, graph_of, are_ends, adjacent}
 use Rattle.graph_core.proofs.Walks.{adjacent_from}
 use Rattle.graph_core.specs.declared.ends.Ends.{Ends}

@@ -1,6 +1,6 @@
 -- Walks: they join, turn back and stay in a set that no step leaves; whether one leads on is
 -- decided. A set that grows step by step stops growing after as many steps as there are vertices.
-use Rattle.counting.proofs.Common.{◌≡◌, ℕ, suc, zero, ◌+◌, ◌≤◌, Bool, true, false, ◌==◌, refl, sym, ap, ◌∙◌, arith, ◌&&◌, ◌||◌, not, eq-eqb, eqb-true, ◌⊎◌, inl, inr, List, [], ◌∷◌, ◌++◌, ◌↔◌, cases_Bool, or_cases, or_left, or_right, and_parts, and_from, false_from_ne_true, both_ways, count_le, count_more, some_none, some_true, true_some, at_le_total, but_fails_second, Within, bit, count, Set, none, some}
+use Rattle.vset_core.proofs.from_counting.Common.{◌≡◌, ℕ, suc, zero, ◌+◌, ◌≤◌, Bool, true, false, ◌==◌, refl, sym, ap, ◌∙◌, arith, ◌&&◌, ◌||◌, not, eq-eqb, eqb-true, ◌⊎◌, inl, inr, List, [], ◌∷◌, ◌++◌, ◌↔◌, cases_Bool, or_cases, or_left, or_right, and_parts, and_from, false_from_ne_true, both_ways, count_le, count_more, some_none, some_true, true_some, at_le_total, but_fails_second, Within, bit, count, Set, none, some}
 use Rattle.graph_core.specs.Common.{Graph, IsGraph, first_end, has_ends, in_cut, second_end, size, Joined, Walk, adjacent, reaches}
 
 pub Walk-join : (adj : ℕ → ℕ → Bool) (u v w : ℕ) (xs ys : List ℕ) → Walk adj u xs v → Walk adj v ys w → Walk adj u (xs ++ ys) w

@@ -1,6 +1,6 @@
 -- Weak duality: a matching of G - R misses at least o(G - R - S) - |S| vertices. Each odd component
 -- has a vertex that is missed or is matched into the set.
-use Rattle.counting.proofs.Common.{◌≡◌, ℕ, ◌+◌, ◌*◌, ◌≤◌, Bool, true, false, ◌==◌, refl, sym, ap, ◌∙◌, arith, ◌&&◌, ◌||◌, not, inl, inr, [], ◌∷◌, nat_lt, le_trans, le_of_eq, mul-add, mul-le-mul_left, cases_Bool, and_parts, both_ways, nat_tests, bit-and, some_le_count, odd-double, some_none, some_true, at_le_total, total_add, total_congr, total_le, total_mul, total_none, total_swap, and_fails_second, and_true, Within, bit, count, is_odd, total, Set, union, some}
+use Rattle.vset_core.proofs.from_counting.Common.{◌≡◌, ℕ, ◌+◌, ◌*◌, ◌≤◌, Bool, true, false, ◌==◌, refl, sym, ap, ◌∙◌, arith, ◌&&◌, ◌||◌, not, inl, inr, [], ◌∷◌, nat_lt, le_trans, le_of_eq, mul-add, mul-le-mul_left, cases_Bool, and_parts, both_ways, nat_tests, bit-and, some_le_count, odd-double, some_none, some_true, at_le_total, total_add, total_congr, total_le, total_mul, total_none, total_swap, and_fails_second, and_true, Within, bit, count, is_odd, total, Set, union, some}
 use Rattle.graph_core.proofs.Components.{joined_outside, joined_walk, one_leader, walk_joined}
 use Rattle.graph_core.proofs.Parity.{degrees, ends_in}
 use Rattle.graph_core.proofs.Walks.{adjacent_from, has_ends-back, has_ends-own, joined_on}

@@ -2,7 +2,7 @@
 -- Stated by: match_core, allowed_edges, theorems.
 -- Used by: graph_core, graph_facts, definition_laws.
 use Rattle.std.specs.Prelude.{◌≡◌, ◌+◌}
-use Rattle.counting.specs.Common.{count, Set, union}
+use Rattle.vset_core.specs.from_counting.Common.{count, Set, union}
 use Rattle.graph_core.specs.Graph.{Graph}
 use Rattle.graph_core.specs.Matchings.{IsMatching, missed_count}
 use Rattle.graph_core.specs.Components.{odd_component_count}

@@ -2,7 +2,7 @@
 -- Stated by: graph_core, barrier_kit, separation_kit, quick_kinds. Used by: tight_cuts.
 use Rattle.std.specs.Prelude.{◌≡◌, ℕ, Bool, false, List, [], ◌∷◌, ◌++◌, ◌&&◌, not, fold, if◌then◌else◌}
 use Rattle.std.specs.List.{list_any}
-use Rattle.counting.specs.Common.{mem, is_subset, rising_list, IsRisingIn}
+use Rattle.vset_core.specs.from_counting.Common.{mem, is_subset, rising_list, IsRisingIn}
 use Rattle.graph_core.specs.Graph.{Graph}
 use Rattle.graph_core.specs.Tight.{IsTight, IsNontrivial, is_nontrivial, canonical_shore}
 

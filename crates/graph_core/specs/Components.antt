@@ -3,7 +3,7 @@
 -- Stated by: graph_core, allowed_edges, graph_facts, barrier_kit, separation_kit and 4 more.
 -- Used by: grow_gen, match_core, brick_kit, two_ears, mcg6_lines, bench_outcomes.
 use Rattle.std.specs.Prelude.{ℕ, List, ◌&&◌, not, nat_lt, map}
-use Rattle.counting.specs.Common.{count, is_odd, Within, Set, none, some, rising_list}
+use Rattle.vset_core.specs.from_counting.Common.{count, is_odd, Within, Set, none, some, rising_list}
 use Rattle.graph_core.specs.Graph.{Graph}
 use Rattle.graph_core.specs.Walks.{Joined, joined}
 

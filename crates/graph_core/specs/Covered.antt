@@ -3,7 +3,7 @@
 -- Stated by: graph_core, grow_gen, graph_facts, barrier_kit, matching_digraph and 17 more.
 -- Used by: uncross, mcg6_lines, bench_outcomes, bench_top.
 use Rattle.std.specs.Prelude.{◌≡◌, ◌≢◌, ℕ, ◌≤◌, ◌<◌, List}
-use Rattle.counting.specs.Common.{Within, none, IsLeastWithout, mem, IsRisingIn}
+use Rattle.vset_core.specs.from_counting.Common.{Within, none, IsLeastWithout, mem, IsRisingIn}
 use Rattle.graph_core.specs.Graph.{Graph, size, first_end, second_end}
 use Rattle.graph_core.specs.Matchings.{Allowed, HasPerfect}
 use Rattle.graph_core.specs.Walks.{Joined}

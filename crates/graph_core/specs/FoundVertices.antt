@@ -2,7 +2,7 @@
 -- them; its result is defined in Components and Sides.
 -- Stated by: graph_core.
 use Rattle.std.specs.Prelude.{◌≡◌, ℕ, ◌+◌, ◌≤◌, true, false, ◌&&◌, not, List, ◌++◌, map}
-use Rattle.counting.specs.Common.{Within, count, rising_list, Set, complement, meet, minus, singleton, union}
+use Rattle.vset_core.specs.from_counting.Common.{Within, count, rising_list, Set, complement, meet, minus, singleton, union}
 use Rattle.graph_core.specs.Components.{components, is_least}
 use Rattle.graph_core.specs.Graph.{Graph}
 use Rattle.graph_core.specs.Trees.{IsForest}

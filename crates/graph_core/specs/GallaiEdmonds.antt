@@ -4,7 +4,7 @@
 -- Stated by: match_core, gallai_edmonds, definition_laws, theorems.
 -- Used by: graph_facts, bench_outcomes, bench_top.
 use Rattle.std.specs.Prelude.{◌≡◌, ℕ, true}
-use Rattle.counting.specs.Common.{Within, Set, none}
+use Rattle.vset_core.specs.from_counting.Common.{Within, Set, none}
 use Rattle.graph_core.specs.Graph.{Graph, degree}
 use Rattle.graph_core.specs.Matchings.{IsMaximum}
 use Rattle.graph_core.specs.Walks.{adjacent}

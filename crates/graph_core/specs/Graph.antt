@@ -4,7 +4,7 @@
 -- Stated by: graph_core, grow_gen, match_search, match_core, allowed_edges and 26 more.
 -- Used by: uncross, bench_outcomes, bench_top.
 use Rattle.std.specs.Prelude.{◌≡◌, ◌≢◌, ℕ, ◌+◌, ◌-◌, Bool, true, List, [], ◌∷◌, ◌++◌, length, ◌==◌, ◌&&◌, ◌||◌, ◌⊎◌, not, slice_index_or}
-use Rattle.counting.specs.Common.{count, Within, Set}
+use Rattle.vset_core.specs.from_counting.Common.{count, Within, Set}
 
 -- the number of vertices, and for each edge its two ends
 pub record Graph : Type 0 where

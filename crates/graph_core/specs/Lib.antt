@@ -21,3 +21,7 @@ pub mod Simple
 pub mod Structure
 pub mod View
 pub mod Common
+-- Passed on to the crates above: from_NAME is all that the crate NAME has in its folder of this name.
+pub use Rattle.vset_core.specs.from_counting as from_counting
+pub use Rattle.vset_core.specs as from_vset_core
+pub use Rattle.line_text.specs as from_line_text

@@ -3,7 +3,7 @@
 -- Stated by: graph_core, match_search, match_core, allowed_edges, graph_facts and 11 more.
 -- Used by: grow_gen, barrier_kit, quick_kinds, move_laws, tree_check, mcg6_lines and 3 more.
 use Rattle.std.specs.Prelude.{◌≡◌, ℕ, ◌≤◌, ◌⊎◌, Bool, true, false, ◌==◌, ◌&&◌, not, cond, nat_le}
-use Rattle.counting.specs.Common.{count, Within, Set, none, every, some_set}
+use Rattle.vset_core.specs.from_counting.Common.{count, Within, Set, none, every, some_set}
 use Rattle.graph_core.specs.Graph.{Graph, size, degree, first_end, second_end}
 
 -- m is a matching of g - r

@@ -2,7 +2,7 @@
 -- state of the search, like Growth.
 -- Stated by: graph_core.
 use Rattle.std.specs.Prelude.{◌≡◌, ℕ, ◌+◌, ◌-◌, ◌<◌, List, length, not, slice_index_or}
-use Rattle.counting.specs.Common.{Within, is_odd, Set}
+use Rattle.vset_core.specs.from_counting.Common.{Within, is_odd, Set}
 use Rattle.graph_core.specs.Components.{is_least}
 use Rattle.graph_core.specs.Graph.{Graph}
 use Rattle.graph_core.specs.Trees.{IsForest}

@@ -2,7 +2,7 @@
 -- the literature.
 -- Stated by: allowed_edges. Used by: tight_cuts.
 use Rattle.std.specs.Prelude.{◌≡◌, ℕ, ◌-◌, true, false, List, ◌&&◌, length, All, Any}
-use Rattle.counting.specs.Common.{Within, none, mem, item, IsRisingIn}
+use Rattle.vset_core.specs.from_counting.Common.{Within, none, mem, item, IsRisingIn}
 use Rattle.graph_core.specs.Graph.{Graph, size}
 use Rattle.graph_core.specs.Matchings.{IsPerfect, Together}
 

@@ -5,7 +5,7 @@
 -- Used by: decomposer, tree_check, mcg6_lines, bench_outcomes, bench_reports, bench_top.
 use Rattle.std.specs.Prelude.{◌≡◌, ℕ, zero, suc, ◌+◌, ◌-◌, true, false, List, [], ◌∷◌, ◌++◌, map, length, filter, cond, not, nat_lt, slice_index_or, All}
 use Rattle.std.specs.List.Sorted.{IsStrictlyIncreasing}
-use Rattle.counting.specs.Common.{count, Within, Set, none, mem, last_of}
+use Rattle.vset_core.specs.from_counting.Common.{count, Within, Set, none, mem, last_of}
 use Rattle.graph_core.specs.Graph.{Graph}
 use Rattle.graph_core.specs.Matchings.{IsPerfect}
 

@@ -4,7 +4,7 @@
 -- Stated by: graph_core, contraction, tree_core, tight_cuts, tree_check, report_text, theorems.
 -- Used by: move_laws, uncross, mcg6_lines.
 use Rattle.std.specs.Prelude.{ℕ, ◌==◌, ◌&&◌, not, Bool, List, length, filter, slice_index}
-use Rattle.counting.specs.Common.{Set, some, mem, rising_list, rising_pairs}
+use Rattle.vset_core.specs.from_counting.Common.{Set, some, mem, rising_list, rising_pairs}
 use Rattle.graph_core.specs.Graph.{Graph, size, first_end, second_end, has_ends}
 use Rattle.graph_core.specs.Partitions.{block, contracted}
 

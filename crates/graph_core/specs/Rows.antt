@@ -2,7 +2,7 @@
 -- textbook; parallel edges count once, since a row is a set.
 -- Stated by: graph_core, match_search, match_core. Used by: separation_kit.
 use Rattle.std.specs.Prelude.{◌≡◌, ℕ, List, length}
-use Rattle.counting.specs.Common.{Within, item, mem, none}
+use Rattle.vset_core.specs.from_counting.Common.{Within, item, mem, none}
 use Rattle.graph_core.specs.Graph.{Graph}
 use Rattle.graph_core.specs.Walks.{adjacent}
 

@@ -2,7 +2,7 @@
 -- Stated by: graph_core, contraction, tree_core, tight_cuts, move_laws, tree_check and 2 more.
 -- Used by: decomposer, theorems.
 use Rattle.std.specs.Prelude.{◌≡◌, ℕ, List, length}
-use Rattle.counting.specs.Common.{count, Within, Set, all_in}
+use Rattle.vset_core.specs.from_counting.Common.{count, Within, Set, all_in}
 use Rattle.graph_core.specs.Graph.{Graph}
 use Rattle.graph_core.specs.Tight.{IsTight}
 use Rattle.graph_core.specs.Partitions.{block, place, contracted}

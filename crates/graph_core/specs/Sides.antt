@@ -3,7 +3,7 @@
 -- Stated by: graph_core, graph_facts, matching_digraph, quick_kinds, tight_cuts and 2 more.
 -- Used by: barrier_kit, separation_kit, ear_core.
 use Rattle.std.specs.Prelude.{◌≡◌, ◌≢◌, ℕ, true, List}
-use Rattle.counting.specs.Common.{Within, Set, none, mem, IsRisingIn}
+use Rattle.vset_core.specs.from_counting.Common.{Within, Set, none, mem, IsRisingIn}
 use Rattle.graph_core.specs.Components.{is_least}
 use Rattle.graph_core.specs.Graph.{Graph, size, first_end, second_end, in_cut}
 use Rattle.graph_core.specs.Walks.{IsOddClosedWalk}

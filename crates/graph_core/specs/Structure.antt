@@ -3,7 +3,7 @@
 -- Stated by: barrier_kit, separation_kit, brick_kit, quick_kinds, tight_cuts and 4 more.
 -- Used by: graph_core, leaf_kinds, two_ears, bench_outcomes.
 use Rattle.std.specs.Prelude.{◌≡◌, ◌≢◌, ℕ, ◌≤◌, ◌⊎◌, Bool, true, List, Option, ◌==◌, ◌&&◌, ◌||◌, not, nat_lt, nat_le, map, find, is_none}
-use Rattle.counting.specs.Common.{count, Within, Set, pair_set, some, rising_list, rising_pairs}
+use Rattle.vset_core.specs.from_counting.Common.{count, Within, Set, pair_set, some, rising_list, rising_pairs}
 use Rattle.graph_core.specs.Graph.{Graph}
 use Rattle.graph_core.specs.Matchings.{HasPerfect, has_perfect}
 use Rattle.graph_core.specs.Components.{component_count, odd_component_count}

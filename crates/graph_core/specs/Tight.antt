@@ -2,7 +2,7 @@
 -- Stated by: graph_core, barrier_kit, matching_digraph, separation_kit, brick_kit and 8 more.
 -- Used by: tree_core, tree_check, mcg6_lines.
 use Rattle.std.specs.Prelude.{◌≡◌, ◌≢◌, ℕ, ◌≤◌, Bool, true, false, ◌==◌, ◌&&◌, ◌||◌, not, nat_le, if◌then◌else◌}
-use Rattle.counting.specs.Common.{count, is_odd, Within, Set, none, complement, each_set}
+use Rattle.vset_core.specs.from_counting.Common.{count, is_odd, Within, Set, none, complement, each_set}
 use Rattle.graph_core.specs.Graph.{Graph, size, first_end, second_end, edges_in_cut}
 use Rattle.graph_core.specs.Matchings.{IsPerfect, is_perfect}
 

@@ -1,7 +1,7 @@
 -- Search trees of G - S: each vertex is a root or a child of its parent. Any textbook.
 -- Stated by: graph_core.
 use Rattle.std.specs.Prelude.{◌≡◌, ℕ, zero, suc, ◌+◌, ◌⊎◌, true, false, List, [], ◌∷◌, ◌++◌}
-use Rattle.counting.specs.Common.{Within, Set}
+use Rattle.vset_core.specs.from_counting.Common.{Within, Set}
 use Rattle.graph_core.specs.Graph.{Graph}
 use Rattle.graph_core.specs.Walks.{adjacent}
 

@@ -2,7 +2,7 @@
 -- Stated by: graph_core, match_core, allowed_edges, graph_facts, barrier_kit and 5 more.
 -- Used by: grow_gen, brick_kit, tight_cuts, two_ears, ear_core, graph6_text, mcg6_encoder.
 use Rattle.std.specs.Prelude.{◌≡◌, ℕ, zero, suc, Bool, true, List, [], ◌∷◌, ◌++◌, ◌==◌, ◌&&◌, ◌||◌, not, length}
-use Rattle.counting.specs.Common.{is_odd, Set, none, some}
+use Rattle.vset_core.specs.from_counting.Common.{is_odd, Set, none, some}
 use Rattle.graph_core.specs.Graph.{Graph, size, has_ends}
 
 -- an edge of g - s joins u and v

@@ -1,6 +1,6 @@
 //! Cuts by their shores: whether an edge is in one, canonical shores, and lists of cuts.
 ghost use Rattle.std.specs.Prelude.{◌≡◌, ◌≤◌, fold, OnOk, OnErr};
-ghost use Rattle.counting.specs.Common.{Within, mem, IsRisingIn};
+ghost use Rattle.vset_core.specs.from_counting.Common.{Within, mem, IsRisingIn};
 ghost use Rattle.graph_core.specs.Common.{canonical_list, is_listed, with_cut, in_cut, size, is_nontrivial};
 
 use crate::{MultiGraph, SetList};

@@ -1,6 +1,6 @@
 //! Multigraphs, and how they grow.
 ghost use Rattle.std.specs.Prelude.{◌≡◌, ◌≢◌, ◌≤◌, ◌<◌, ◌-◌, ◌↔◌, [], OnOk, OnErr, IfOk, IsErrOf, length};
-ghost use Rattle.counting.specs.Common.{Within, none, mem};
+ghost use Rattle.vset_core.specs.from_counting.Common.{Within, none, mem};
 ghost use Rattle.graph_core.specs.Components.{component_count, components};
 ghost use Rattle.graph_core.specs.Graph.{IsBipartite, size, first_end, second_end, with_edge};
 ghost use Rattle.graph_core.specs.Sides.{AreSides, IsEven};

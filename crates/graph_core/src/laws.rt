@@ -1,6 +1,6 @@
 //! The laws on graphs. Each is the contract of a function that does nothing.
 ghost use Rattle.std.specs.Prelude.{◌≡◌, ℕ, List, ◌+◌, ◌*◌, ◌≤◌, ◌<◌, ◌&&◌, true, false, length, ◌↔◌};
-ghost use Rattle.counting.specs.Common.{Within, count, is_odd, Set, none, union, meet, minus, complement, mem, IsRisingIn};
+ghost use Rattle.vset_core.specs.from_counting.Common.{Within, count, is_odd, Set, none, union, meet, minus, complement, mem, IsRisingIn};
 ghost use Rattle.graph_core.specs.Common.{Graph, size, IsGraph, IsMultigraph, inside, connects, edges_in_cut, IsPerfect, IsMatching, ShareNoEnd, HasPerfect, has_perfect, missed_count, Joined, joined, IsLeftSide, odd_component_count, IsCovered, AreBlocks, IsMerge, IsPartition, IsPerfectAt, complement_of, contracted, merged, singles, IsUnion, IsTightAt, block_count, blocks_in, quotient, IsTight};
 
 /// In a multigraph a matching is a set of edges of which no two share an end.

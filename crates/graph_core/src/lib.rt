@@ -29,12 +29,16 @@ mod three_sets;
 mod tree;
 mod verdict;
 
+// Passed on to the crates above.
 pub use cuts::{add_cut, add_cuts, canonical_shore, is_in_cut, is_nontrivial};
 pub use ends::Ends;
 pub use faults::AddFault;
 pub use graph::{MOST_EDGES, MultiGraph};
+pub use line_text;
 pub use line_text::{FaultKind, TextFault};
+pub use listed;
 pub use lists::{Numbers, SetList};
 pub use sides::{Sides, parts_and_side};
 pub use three_sets::ThreeSets;
 pub use verdict::{Kind, Reason, Verdict};
+pub use vset_core;

@@ -1,6 +1,6 @@
 //! The rows of a graph's adjacency matrix, and how an edge enters them.
 ghost use Rattle.std.specs.Prelude.{◌≤◌, length};
-ghost use Rattle.counting.specs.Common.{Within};
+ghost use Rattle.vset_core.specs.from_counting.Common.{Within};
 ghost use Rattle.graph_core.specs.Common.{Graph, with_edge, AreRows};
 
 use vset_core::{MOST_VERTICES, VSet, add_arc};

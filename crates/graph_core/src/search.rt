@@ -1,6 +1,6 @@
 //! The search through G - S: its components, and for each of them a search tree.
 ghost use Rattle.std.specs.Prelude.{◌≡◌, ◌≢◌, ◌≤◌, ◌<◌, ◌+◌, ◌^◌, ◌==◌, ◌&&◌, ◌||◌, ℕ, true, false, [], All, IfOk, OnOk, length};
-ghost use Rattle.counting.specs.Common.{Within, mem, item};
+ghost use Rattle.vset_core.specs.from_counting.Common.{Within, mem, item};
 ghost use Rattle.graph_core.specs.Common.{components, Graph, IsGraph, IsGrown, node_at, parent_at, depth_at, AreTrees, AreRows};
 
 use crate::SetList;

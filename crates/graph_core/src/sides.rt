@@ -1,6 +1,6 @@
 //! The two sides of a bipartite graph, or an odd closed walk.
 ghost use Rattle.std.specs.Prelude.{◌≡◌, ◌≤◌, ◌++◌, ◌∷◌, ◌↔◌, not, All, Contains, IfOk, IfSome, IfNone, Some, None, length};
-ghost use Rattle.counting.specs.Common.{Within, is_odd, mem, none};
+ghost use Rattle.vset_core.specs.from_counting.Common.{Within, is_odd, mem, none};
 ghost use Rattle.graph_core.specs.Common.{components, IsBipartite, IsGraph, parent_at, depth_at, AreTrees, IsRooted, AreSides, IsEven, IsSide, way_up, way_down, graph_of};
 
 use crate::tree::{TreeNode, climb, descend, even_vertices};

@@ -1,6 +1,6 @@
 //! Simple graphs.
 ghost use Rattle.std.specs.Prelude.{◌≡◌, ◌-◌, ◌↔◌, IsTrue};
-ghost use Rattle.counting.specs.Common.{Within, some};
+ghost use Rattle.vset_core.specs.from_counting.Common.{Within, some};
 ghost use Rattle.graph_core.specs.Common.{size, first_end, second_end, has_ends, IsSimple};
 
 use crate::MultiGraph;

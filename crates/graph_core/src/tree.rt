@@ -1,6 +1,6 @@
 //! Search trees: for each vertex its parent and its depth, and the ways up and down.
 ghost use Rattle.std.specs.Prelude.{◌≡◌, ◌≤◌, ◌<◌, ◌++◌, ◌∷◌, not, OnOk, IfOk, length};
-ghost use Rattle.counting.specs.Common.{Within, is_odd, rising_list};
+ghost use Rattle.vset_core.specs.from_counting.Common.{Within, is_odd, rising_list};
 ghost use Rattle.graph_core.specs.Common.{parent_at, depth_at, IsRooted, is_even_at, way_up, way_down};
 
 use crate::Numbers;
@@ -16,7 +16,7 @@ pub(crate) struct TreeNode {
 
 impl TreeNode {
     /// Whether the depth is odd.
-    #[tactic(auto, using(counting::proofs::Odd::is_odd_remainder))]
+    #[tactic(auto, using(crate::proofs::Parity::is_odd_remainder))]
     pub(crate) fn is_odd(self) -> bool
         ensures { result ≡ is_odd self.depth }
     {

@@ -1,6 +1,6 @@
 -- What the search for a covered graph finds, by the definitions. Idea: a perfect matching has the
 -- most edges possible, so if there is one, each maximum matching is perfect.
-use Rattle.counting.proofs.Common.{◌≡◌, subst, Result, Err, Set, none}
+use Rattle.allowed_edges.proofs.from_counting.Common.{◌≡◌, subst, Result, Err, Set, none}
 use Rattle.graph_core.proofs.Common.{Graph, HasPerfect, IsGraph, IsMaximum, IsPerfect, IsReason, reason_of, none_missed-perfect}
 use Rattle.graph_core.specs.declared.verdict.Reason.{Reason}
 use Rattle.allowed_edges.proofs.AllowedPartners.{maximum-perfect}

@@ -1,6 +1,6 @@
 -- A flood by parities: the neighbours of an open vertex of even come into odd, those of another one
 -- into even. A vertex that would be in both shows that no side fits; else even is a side.
-use Rattle.counting.proofs.Common.{◌≡◌, ◌≢◌, ◌↔◌, ◌+◌, ℕ, List, [], ◌∷◌, Bool, true, false, ◌==◌, ◌&&◌, ◌||◌, not, refl, sym, ap, ap₂, ◌∙◌, arith, subst, eq-eqb, eqb-true, inl, inr, rules, and_parts, both_ways, cases_Bool, cases_eq, not-true, or_cases, or_left, or_right, Within, count, mem, none, Set}
+use Rattle.allowed_edges.proofs.from_counting.Common.{◌≡◌, ◌≢◌, ◌↔◌, ◌+◌, ℕ, List, [], ◌∷◌, Bool, true, false, ◌==◌, ◌&&◌, ◌||◌, not, refl, sym, ap, ap₂, ◌∙◌, arith, subst, eq-eqb, eqb-true, inl, inr, rules, and_parts, both_ways, cases_Bool, cases_eq, not-true, or_cases, or_left, or_right, Within, count, mem, none, Set}
 use Rattle.graph_core.proofs.Common.{Graph, IsBipartite, IsConnected, IsGraph, IsMultigraph, IsSide, Joined, Walk, adjacent, adjacent-edge, adjacent_from, adjacent_within, count_lost, has_ends-cases, has_ends-own, joined_back, joined_on, joined_self}
 use Rattle.graph_facts.specs.Layers.{AreLayers, AreOpenLayers}
 

@@ -2,10 +2,10 @@
 -- by the definitions of graphs and matchings.
 -- Stated by: graph_facts.
 use Rattle.std.specs.Prelude.{◌≡◌, ℕ, true, List, Option, Some, None, IfSome, ◌↔◌}
-use Rattle.counting.specs.Common.{Within, mem, IsRisingIn, none}
+use Rattle.allowed_edges.specs.from_counting.Common.{Within, mem, IsRisingIn, none}
 use Rattle.graph_core.specs.Common.{Attains, components, InD, InA, Graph, IsBipartite, IsCovered, HasPerfect, IsMaximum, IsPerfect, IsSide}
-use Rattle.match_core.specs.Common.{IsOf, MatchingValue, edges_of, ArePartners}
-use Rattle.match_core.specs.declared.frames.FrameSets.{FrameSets}
+use Rattle.allowed_edges.specs.from_match_core.Common.{IsOf, MatchingValue, edges_of, ArePartners}
+use Rattle.allowed_edges.specs.from_match_core.declared.frames.FrameSets.{FrameSets}
 
 -- a maximum matching of g; the outer set is D, and the inner one is A, the Berge set
 pub record IsFrame (g : Graph) (f : FrameSets) : Type 0 where

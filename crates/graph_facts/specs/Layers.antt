@@ -1,7 +1,7 @@
 -- What a search from vertex 1 finds in a graph, by the parity of the number of steps.
 -- Stated by: graph_facts.
 use Rattle.std.specs.Prelude.{◌≡◌, ◌↔◌, ◌||◌, ℕ, true, false, not}
-use Rattle.counting.specs.Common.{Within, Set, none}
+use Rattle.allowed_edges.specs.from_counting.Common.{Within, Set, none}
 use Rattle.graph_core.specs.Common.{Graph, IsSide, Joined, adjacent}
 
 -- walks from 1 reach the vertices of even and odd, and no others; for each side of g, even is

@@ -1,3 +1,7 @@
 pub mod Facts
 pub mod Layers
 pub mod Lent
+-- Passed on to the crates above: from_NAME is all that the crate NAME has in its folder of this name.
+pub use Rattle.allowed_edges.specs.from_match_search as from_match_search
+pub use Rattle.allowed_edges.specs.from_match_core as from_match_core
+pub use Rattle.allowed_edges.specs as from_allowed_edges

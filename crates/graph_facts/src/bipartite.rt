@@ -1,15 +1,15 @@
 //! A covered bipartite graph as a type.
 ghost use Rattle.std.specs.Prelude.{◌≡◌, ◌↔◌, None, Some, IfOk};
-ghost use Rattle.counting.specs.Common.{mem, none};
+ghost use Rattle.allowed_edges.specs.from_counting.Common.{mem, none};
 ghost use Rattle.graph_core.specs.Common.{IsCovered, IsBipartite, IsPerfect, IsSide, IsWithinLimits};
-ghost use Rattle.match_core.specs.Common.{IsOf, edges_of};
+ghost use Rattle.allowed_edges.specs.from_match_core.Common.{IsOf, edges_of};
 
 use crate::covered_graph::Covered;
+use allowed_edges::match_core::Matching;
 use graph_core::MultiGraph;
-use match_core::Matching;
+use graph_core::vset_core::VSet;
 use std::alloc::{AllocError as Memory, Global};
 use std::marker::Model;
-use vset_core::VSet;
 
 /// A covered bipartite graph with one of its sides. Contracts see the graph.
 #[derive(Drop)]
@@ -19,7 +19,7 @@ pub struct Bipartite<'c, 'g> {
 }
 
 impl<'c, 'g> Model for Bipartite<'c, 'g> {
-    ghost use Rattle.counting.specs.Common.{mem};
+    ghost use Rattle.allowed_edges.specs.from_counting.Common.{mem};
     ghost use Rattle.graph_core.specs.Common.{Graph, IsSide};
 
     ghost Value = { Graph };

@@ -1,19 +1,19 @@
 //! A matching covered graph as a type.
 ghost use Rattle.std.specs.Prelude.{◌≡◌, ◌↔◌, ◌≤◌, None, Some, Err, IsTrue, IfOk};
-ghost use Rattle.counting.specs.Common.{mem, none};
+ghost use Rattle.allowed_edges.specs.from_counting.Common.{mem, none};
 ghost use Rattle.graph_core.specs.Common.{IsConnected, IsCovered, IsReason, IsBipartite, size, IsPerfect, IsSide, reason_of, IsWithinLimits};
-ghost use Rattle.match_core.specs.Common.{IsOf, edges_of, ArePartners};
+ghost use Rattle.allowed_edges.specs.from_match_core.Common.{IsOf, edges_of, ArePartners};
 ghost use Rattle.graph_facts.specs.Facts.{AreCoveredFacts};
 
 use crate::facts::Facts;
 use crate::layers::Layers;
 use crate::lent::Lent;
+use allowed_edges::match_core::{Found, Matching, PartnerTable, maximum};
 use allowed_edges::{first_unallowed, partners_where_perfect};
+use graph_core::vset_core::VSet;
 use graph_core::{MultiGraph, Reason};
-use match_core::{Found, Matching, PartnerTable, maximum};
 use std::alloc::{AllocError as Memory, Global};
 use std::marker::Model;
-use vset_core::VSet;
 
 /// A graph that is matching covered: it has at least two vertices and is connected, and each edge
 /// lies in a perfect matching (Lovász and Plummer, "Matching Theory", chapter 5). It keeps the

@@ -1,16 +1,16 @@
 //! A graph with what the searches find out about it.
 ghost use Rattle.std.specs.Prelude.{◌≡◌, ◌↔◌, None, Some, IsTrue, IfSome, IfOk};
-ghost use Rattle.counting.specs.Common.{Lists, mem, none};
+ghost use Rattle.allowed_edges.specs.from_counting.Common.{Lists, mem, none};
 ghost use Rattle.graph_core.specs.Common.{component_count, IsBipartite, size, Allowed, HasPerfect, IsSide, IsVerdict, IsWithinLimits};
-ghost use Rattle.match_core.specs.Common.{ArePartners};
+ghost use Rattle.allowed_edges.specs.from_match_core.Common.{ArePartners};
 ghost use Rattle.graph_facts.specs.Facts.{IsFrame};
 
+use allowed_edges::match_core::{FrameSets, PartnerTable, frame};
 use allowed_edges::{allowed_in, partners_where_perfect, verdict_in};
+use graph_core::vset_core::VSet;
 use graph_core::{MultiGraph, Numbers, SetList, Verdict, parts_and_side};
-use match_core::{FrameSets, PartnerTable, frame};
 use std::alloc::{AllocError as Memory, Global};
 use std::marker::Model;
-use vset_core::VSet;
 
 /// A graph with its components, its side, a maximum matching with the Gallai-Edmonds sets, and its
 /// table of partners if the matching is perfect. Contracts see the graph.

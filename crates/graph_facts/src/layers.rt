@@ -1,12 +1,12 @@
 //! The vertices that walks reach from vertex 1, by the parity of their lengths: one search tells
 //! whether a graph is connected and, if it is, whether it is bipartite.
 ghost use Rattle.std.specs.Prelude.{◌≡◌, ◌≢◌, ◌≤◌, ◌↔◌, ◌&&◌, ◌||◌, ℕ, Bool, None, Some, true, false, not, IfSome, IfNone};
-ghost use Rattle.counting.specs.Common.{Within, mem, none, IsLeastWithout};
+ghost use Rattle.allowed_edges.specs.from_counting.Common.{Within, mem, none, IsLeastWithout};
 ghost use Rattle.graph_core.specs.Common.{IsBipartite, IsConnected, IsSide, Joined};
 ghost use Rattle.graph_facts.specs.Layers.{AreLayers};
 
 use graph_core::MultiGraph;
-use vset_core::{MOST_VERTICES, VSet};
+use graph_core::vset_core::{MOST_VERTICES, VSet};
 
 /// The vertices that walks from vertex 1 reach. In a bipartite graph each has one parity.
 #[derive(Clone, Copy, Drop)]

@@ -21,6 +21,9 @@ mod facts;
 mod layers;
 mod lent;
 
+// Passed on to the crates above.
+pub use allowed_edges;
+pub use allowed_edges::{match_core, match_search};
 pub use bipartite::Bipartite;
 pub use covered_graph::Covered;
 pub use facts::Facts;

@@ -1,6 +1,6 @@
 -- The edges of a multigraph, one by one down its list of ends: what is true of the ends of each
 -- edge by its number is true of each pair of the list.
-use Rattle.counting.proofs.Common.{◌≡◌, ◌≢◌, ◌<◌, ◌-◌, ℕ, suc, List, [], ◌∷◌, length, get_or, arith, subst, AllByRecursion, Within}
+use Rattle.graph_core.proofs.from_counting.Common.{◌≡◌, ◌≢◌, ◌<◌, ◌-◌, ℕ, suc, List, [], ◌∷◌, length, get_or, arith, subst, AllByRecursion, Within}
 use Rattle.graph_core.proofs.Common.{Graph, size, IsMultigraph}
 
 -- what holds at each place is true of each item

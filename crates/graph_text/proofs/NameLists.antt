@@ -1,6 +1,6 @@
 -- Lists of different names: a word of the form of a name is ASCII, hence UTF-8; a word that is
 -- none of the names has no place among them; and a further one keeps the names different.
-use Rattle.counting.proofs.Common.{◌≡◌, ◌≢◌, ◌<◌, ◌+◌, inl, inr, ℕ, suc, zero, Bool, true, false, not, cond, nat_lt, ◌||◌, List, [], ◌∷◌, ◌++◌, length, map, get_or, None, refl, sym, ◌∙◌, ap, ap₂, arith, subst, position, String, Global, Result, Ok, Err, IfOk, OnErr, is_some, bytes_eq, IsUtf8, IsAscii, string_bytes, position_or_len, IsUtf8-from_ascii, get_or-append, list_any, list_all, AllByRecursion, cases_Bool, cases_eq, and_parts, both_ways, or_parts, nat_tests, length-append, length-map, map-append, bytes_eq-Decides, get_or-append_seam}
+use Rattle.graph_core.proofs.from_counting.Common.{◌≡◌, ◌≢◌, ◌<◌, ◌+◌, inl, inr, ℕ, suc, zero, Bool, true, false, not, cond, nat_lt, ◌||◌, List, [], ◌∷◌, ◌++◌, length, map, get_or, None, refl, sym, ◌∙◌, ap, ap₂, arith, subst, position, String, Global, Result, Ok, Err, IfOk, OnErr, is_some, bytes_eq, IsUtf8, IsAscii, string_bytes, position_or_len, IsUtf8-from_ascii, get_or-append, list_any, list_all, AllByRecursion, cases_Bool, cases_eq, and_parts, both_ways, or_parts, nat_tests, length-append, length-map, map-append, bytes_eq-Decides, get_or-append_seam}
 use Rattle.indexmap.specs.IndexSet.{insert_key}
 use Rattle.graph_text.specs.Common.{is_name_byte, is_name, is_among, AreNames}
 

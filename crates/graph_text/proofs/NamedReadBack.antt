@@ -1,10 +1,10 @@
 -- The text written for a graph with names is read as this graph with these names: the header leads
 -- to no names and no edges, the lines of the names add them one by one, and the line of each edge
 -- adds it, since different names have different places.
-use Rattle.counting.proofs.Common.{nat_le, ◌≡◌, ◌≢◌, ◌+◌, ◌-◌, ◌≤◌, ◌<◌, ◌==◌, ◌||◌, ◌&&◌, not, ℕ, List, [], ◌∷◌, ◌++◌, length, map, get_or, true, false, Some, Ok, refl, sym, ap, subst, arith, append_assoc, bytes_eq, get_or-append, AllByRecursion, list_all, cases_Bool, and_parts, and_from, nat_tests, append-nil, length-append, bytes_eq-Decides, get_or-append_seam, Within}
-use Rattle.line_text.specs.Common.{Begins, Stands, is_line_feed, has_form, is_word, is_blank, IsSignificant}
-use Rattle.line_text.proofs.Decimals.{number_of-decimal, is_word-decimal}
-use Rattle.line_text.proofs.ReadBack.{Stands-written, Begins-append, significant-append}
+use Rattle.graph_core.proofs.from_counting.Common.{nat_le, ◌≡◌, ◌≢◌, ◌+◌, ◌-◌, ◌≤◌, ◌<◌, ◌==◌, ◌||◌, ◌&&◌, not, ℕ, List, [], ◌∷◌, ◌++◌, length, map, get_or, true, false, Some, Ok, refl, sym, ap, subst, arith, append_assoc, bytes_eq, get_or-append, AllByRecursion, list_all, cases_Bool, and_parts, and_from, nat_tests, append-nil, length-append, bytes_eq-Decides, get_or-append_seam, Within}
+use Rattle.graph_core.specs.from_line_text.Common.{Begins, Stands, is_line_feed, has_form, is_word, is_blank, IsSignificant}
+use Rattle.graph_core.proofs.from_line_text.Decimals.{number_of-decimal, is_word-decimal}
+use Rattle.graph_core.proofs.from_line_text.ReadBack.{Stands-written, Begins-append, significant-append}
 use Rattle.graph_core.proofs.Common.{Graph, size}
 use Rattle.graph_text.specs.Common.{EitherSoFar, either_version, is_name, is_name_byte, is_among, vertex_of, AreNames, named_header_words, name_words, named_edge_words, named_words, named_text, FitsNames}
 use Rattle.graph_text.proofs.Edges.{IsEdgeIn, edges-multigraph}

@@ -1,8 +1,8 @@
 -- The default names `v1`, `v2` and so on are different names: a number below 10 ^ 9 is written in
 -- one to nine digits, and is read again, so that equal names have equal numbers. Each name after
 -- the others is therefore new, by induction over their number.
-use Rattle.counting.proofs.Common.{◌≡◌, ◌≤◌, ◌<◌, ◌^◌, ℕ, zero, suc, true, false, [], ◌∷◌, ◌++◌, length, refl, ◌∙◌, ap, ap₂, ◌||◌, arith, decimal, bytes_eq, length-decimal-le, cases_Bool, and_from, le-leb, nat_tests, length-append, list_any-append, bytes_eq-Decides}
-use Rattle.line_text.proofs.Decimals.{number_of-decimal, digits-decimal, list_all-digits}
+use Rattle.graph_core.proofs.from_counting.Common.{◌≡◌, ◌≤◌, ◌<◌, ◌^◌, ℕ, zero, suc, true, false, [], ◌∷◌, ◌++◌, length, refl, ◌∙◌, ap, ap₂, ◌||◌, arith, decimal, bytes_eq, length-decimal-le, cases_Bool, and_from, le-leb, nat_tests, length-append, list_any-append, bytes_eq-Decides}
+use Rattle.graph_core.proofs.from_line_text.Decimals.{number_of-decimal, digits-decimal, list_all-digits}
 use Rattle.graph_text.specs.Common.{is_name, is_name_byte, is_among, plain_name, plain_names}
 
 -- a digit may occur in a name

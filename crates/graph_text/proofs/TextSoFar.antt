@@ -2,8 +2,8 @@
 -- with one more line is the text of the list and then the text of that line. The text of a graph is
 -- its header and then the lines of its parts.
 use Rattle.std.proofs.Common.{◌≡◌, ◌≤◌, ◌<◌, ◌+◌, ℕ, List, [], ◌∷◌, ◌++◌, length, get_or, map, take, take_all, append_assoc, sym, ◌∙◌, ap, arith, codes, decimal}
-use Rattle.line_text.specs.Common.{written}
-use Rattle.line_text.proofs.WrittenLines.{written-append, written-more}
+use Rattle.graph_core.specs.from_line_text.Common.{written}
+use Rattle.graph_core.proofs.from_line_text.WrittenLines.{written-append, written-more}
 use Rattle.graph_core.proofs.Common.{Graph, size, first_end, second_end}
 use Rattle.graph_text.specs.Common.{edge_words, header_words, graph_text, name_words, named_edge_words, named_header_words, named_text}
 

@@ -1,10 +1,10 @@
 -- The text written for a graph in version 1 is read as this graph: the header leads to the graph
 -- without edges, and the line of each edge adds it, by induction over the edges. No test of the
 -- tables applies.
-use Rattle.counting.proofs.Common.{◌≡◌, ◌+◌, ◌≤◌, ◌<◌, ℕ, List, [], ◌∷◌, ◌++◌, length, map, true, Some, Ok, refl, ap, arith, append_assoc, AllByRecursion, nat_tests, append-nil, length-append}
-use Rattle.line_text.specs.Common.{Begins, Stands, lines_of, has_form, words_of, unwords, is_skipped, IsSignificant}
-use Rattle.line_text.proofs.Decimals.{number_of-decimal, is_word-decimal}
-use Rattle.line_text.proofs.ReadBack.{Stands-written, Stands-comments, is_closed-unlines}
+use Rattle.graph_core.proofs.from_counting.Common.{◌≡◌, ◌+◌, ◌≤◌, ◌<◌, ℕ, List, [], ◌∷◌, ◌++◌, length, map, true, Some, Ok, refl, ap, arith, append_assoc, AllByRecursion, nat_tests, append-nil, length-append}
+use Rattle.graph_core.specs.from_line_text.Common.{Begins, Stands, lines_of, has_form, words_of, unwords, is_skipped, IsSignificant}
+use Rattle.graph_core.proofs.from_line_text.Decimals.{number_of-decimal, is_word-decimal}
+use Rattle.graph_core.proofs.from_line_text.ReadBack.{Stands-written, Stands-comments, is_closed-unlines}
 use Rattle.graph_core.proofs.Common.{Graph, size}
 use Rattle.graph_text.specs.Common.{GraphSoFar, version_one, FitsVersionOne, edge_words, header_words, graph_words, graph_text}
 use Rattle.graph_text.proofs.Edges.{IsEdgeIn, edges-multigraph}

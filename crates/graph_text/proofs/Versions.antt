@@ -2,12 +2,12 @@
 -- the same to each line, so by induction over the lines the same comes of the text. A header of
 -- version 2 is none of version 1; after it names are kept, so that no graph without names comes
 -- of the text.
-use Rattle.counting.proofs.Common.{◌≡◌, ◌↔◌, ℕ, ◌+◌, ◌==◌, ◌||◌, not, Bool, true, false, cond, codes, List, [], ◌∷◌, length, Option, Some, None, is_some, Result, Ok, Err, IfOk, inl, inr, sym, ◌∙◌, ap, subst, arith, bytes_eq, result_map_both, cases_Bool, and_parts, bytes_eq-Decides}
-use Rattle.line_text.specs.Common.{checked, Stands, FirstFault, lines_of, go_on, reading_from, SignificantLine, significant_lines_of, has_form, begin_with}
-use Rattle.line_text.proofs.ExactlyOne.{Stands-reading_of, Stands-from_reading, FirstFault-reading_of, FirstFault-from_reading}
+use Rattle.graph_core.proofs.from_counting.Common.{◌≡◌, ◌↔◌, ℕ, ◌+◌, ◌==◌, ◌||◌, not, Bool, true, false, cond, codes, List, [], ◌∷◌, length, Option, Some, None, is_some, Result, Ok, Err, IfOk, inl, inr, sym, ◌∙◌, ap, subst, arith, bytes_eq, result_map_both, cases_Bool, and_parts, bytes_eq-Decides}
+use Rattle.graph_core.specs.from_line_text.Common.{checked, Stands, FirstFault, lines_of, go_on, reading_from, SignificantLine, significant_lines_of, has_form, begin_with}
+use Rattle.graph_core.proofs.from_line_text.ExactlyOne.{Stands-reading_of, Stands-from_reading, FirstFault-reading_of, FirstFault-from_reading}
 use Rattle.graph_core.proofs.Common.{Graph}
-use Rattle.line_text.specs.declared.faults.FaultKind.{FaultKind}
-use Rattle.line_text.specs.declared.faults.FaultKind.TheVariants as kind
+use Rattle.graph_core.specs.from_line_text.declared.faults.FaultKind.{FaultKind}
+use Rattle.graph_core.specs.from_line_text.declared.faults.FaultKind.TheVariants as kind
 use Rattle.graph_text.specs.Common.{EitherSoFar, NamedGraph, is_named_header, is_plain_header, either_header, line_behind, end_behind, either_version, begin_named, is_version_two, GraphSoFar, graph_line, graph_end, version_one, header}
 
 -- what has been read without names, and a graph without names

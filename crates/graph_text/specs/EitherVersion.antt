@@ -4,10 +4,10 @@
 -- Used by: bench_outcomes, bench_top.
 use Rattle.std.specs.Prelude.{ℕ, ◌==◌, ◌&&◌, ◌||◌, not, nat_lt, Bool, false, List, [], ◌∷◌, ◌++◌, codes, length, Option, Some, None, Result, Ok, Err, if◌then◌else◌, bytes_eq}
 use Rattle.std.specs.Result.{result_map_both}
-use Rattle.line_text.specs.Common.{Rules, checked, SignificantLine, significant_lines_of, has_form, word_at, is_number, value_of}
+use Rattle.graph_core.specs.from_line_text.Common.{Rules, checked, SignificantLine, significant_lines_of, has_form, word_at, is_number, value_of}
 use Rattle.graph_core.specs.Common.{Graph, size, with_edge}
-use Rattle.line_text.specs.declared.faults.FaultKind.{FaultKind}
-use Rattle.line_text.specs.declared.faults.FaultKind.TheVariants as kind
+use Rattle.graph_core.specs.from_line_text.declared.faults.FaultKind.{FaultKind}
+use Rattle.graph_core.specs.from_line_text.declared.faults.FaultKind.TheVariants as kind
 use Rattle.graph_text.specs.GraphLines.{GraphSoFar, graph_line, graph_end}
 use Rattle.graph_text.specs.Names.{is_name, is_among, vertex_of}
 use Rattle.graph_text.specs.VersionOne.{most_vertices, most_edges}

@@ -2,10 +2,10 @@
 -- between numbered vertices.
 -- Stated by: graph_text. Used by: bench_top, theorems.
 use Rattle.std.specs.Prelude.{ℕ, ◌==◌, ◌&&◌, ◌||◌, not, List, [], ◌∷◌, codes, Result, Ok, Err, if◌then◌else◌}
-use Rattle.line_text.specs.Common.{checked, has_form, word_at, is_number, value_of, is_out_of_range}
+use Rattle.graph_core.specs.from_line_text.Common.{checked, has_form, word_at, is_number, value_of, is_out_of_range}
 use Rattle.graph_core.specs.Common.{Graph, size, with_edge}
-use Rattle.line_text.specs.declared.faults.FaultKind.{FaultKind}
-use Rattle.line_text.specs.declared.faults.FaultKind.TheVariants as kind
+use Rattle.graph_core.specs.from_line_text.declared.faults.FaultKind.{FaultKind}
+use Rattle.graph_core.specs.from_line_text.declared.faults.FaultKind.TheVariants as kind
 
 -- the edges read so far, and how many are expected
 pub record GraphSoFar : Type 0 where

@@ -1,10 +1,10 @@
 -- Version 1 of the graph format: a header `p mcg N M` and M lines `e A B`.
 -- Stated by: graph_text. Used by: mcg6_lines, bench_top.
 use Rattle.std.specs.Prelude.{ℕ, ◌≤◌, ◌&&◌, ◌||◌, not, nat_lt, List, [], ◌∷◌, codes, Result}
-use Rattle.line_text.specs.Common.{Rules, checked, has_form, word_at, is_number, value_of}
+use Rattle.graph_core.specs.from_line_text.Common.{Rules, checked, has_form, word_at, is_number, value_of}
 use Rattle.graph_core.specs.Common.{Graph, IsMultigraph, size}
-use Rattle.line_text.specs.declared.faults.FaultKind.{FaultKind}
-use Rattle.line_text.specs.declared.faults.FaultKind.TheVariants as kind
+use Rattle.graph_core.specs.from_line_text.declared.faults.FaultKind.{FaultKind}
+use Rattle.graph_core.specs.from_line_text.declared.faults.FaultKind.TheVariants as kind
 use Rattle.graph_text.specs.GraphLines.{GraphSoFar, graph_line, graph_end}
 
 -- the most vertices in version 1

@@ -1,7 +1,7 @@
 -- The texts that are written for a graph.
 -- Stated by: graph_text, mcg6_lines. Used by: bench_outcomes, bench_top, theorems.
 use Rattle.std.specs.Prelude.{◌≡◌, ℕ, ◌-◌, ◌≤◌, List, [], ◌∷◌, ◌++◌, codes, length, map, slice_index_or, decimal}
-use Rattle.line_text.specs.Common.{written}
+use Rattle.graph_core.specs.from_line_text.Common.{written}
 use Rattle.graph_core.specs.Common.{Graph, IsMultigraph, size}
 use Rattle.graph_text.specs.Names.{AreNames}
 

@@ -1,7 +1,7 @@
 //! Both versions of the graph format.
 ghost use Rattle.std.specs.Prelude.{◌≡◌, ◌<◌, ◌≤◌, ◌-◌, ◌^◌, ℕ, length, false, Some, IfOk, IfErr, Ok, Err};
-ghost use Rattle.line_text.specs.Common.{Gives, Stands, FirstFault, texts_of, IsFirstFault, ReadsText};
-ghost use Rattle.line_text.specs.declared.faults.FaultKind.{FaultKind};
+ghost use Rattle.graph_core.specs.from_line_text.Common.{Gives, Stands, FirstFault, texts_of, IsFirstFault, ReadsText};
+ghost use Rattle.graph_core.specs.from_line_text.declared.faults.FaultKind.{FaultKind};
 ghost use Rattle.graph_core.specs.Common.{size};
 ghost use Rattle.graph_text.specs.EitherVersion.{EitherSoFar, NamedGraph, named_so_far, is_over, either_header, vertex_line, named_edge_line, named_line, line_behind, end_behind, either_version};
 ghost use Rattle.graph_text.specs.SoFar.{so_far, either_so_far, named_graph};
@@ -11,10 +11,12 @@ use crate::graph_lines::{close_graph, read_edge};
 use crate::named::Named;
 use crate::names::{Names, name_of};
 use crate::version_one::{VERSION_ONE_EDGES, VERSION_ONE_VERTICES};
+use graph_core::line_text::{
+    FaultKind, LineFormat, Refusal, TextFault, has_form, number, read_text, word,
+};
+use graph_core::vset_core::MOST_VERTICES;
 use graph_core::{MOST_EDGES, MultiGraph};
-use line_text::{FaultKind, LineFormat, Refusal, TextFault, has_form, number, read_text, word};
 use std::alloc::Global;
-use vset_core::MOST_VERTICES;
 
 // The format.
 #[derive(Drop)]

@@ -1,12 +1,12 @@
 //! What both versions of the graph format share.
 ghost use Rattle.std.specs.Prelude.{◌≡◌, ◌≤◌};
-ghost use Rattle.line_text.specs.Common.{Gives, texts_of};
+ghost use Rattle.graph_core.specs.from_line_text.Common.{Gives, texts_of};
 ghost use Rattle.graph_core.specs.Common.{Graph};
 ghost use Rattle.graph_text.specs.Common.{GraphSoFar, edge_line, graph_line, graph_end, so_far};
 
 use crate::body::Body;
 use graph_core::MultiGraph;
-use line_text::{FaultKind, Refusal, has_form, number, word};
+use graph_core::line_text::{FaultKind, Refusal, has_form, number, word};
 
 // A line of an edge between numbered vertices.
 fn add_edge(body: &mut Body, words: &[&[u8]]) -> Result<(), Refusal<FaultKind>>

@@ -1,9 +1,9 @@
 //! Laws of the texts of graphs.
 ghost use Rattle.std.specs.Prelude.{◌≡◌, ◌↔◌, ℕ, List, ◌∷◌, ◌++◌, true, false, Some, None};
 ghost use Rattle.std.specs.List.{AllByRecursion};
-ghost use Rattle.line_text.specs.Common.{Stands, StandsAlone, FirstFault, lines_of, SignificantLine, significant_lines_of, words_of, is_skipped};
-ghost use Rattle.line_text.specs.declared.faults.FaultKind.{FaultKind};
-ghost use Rattle.line_text.specs.declared.faults.FaultKind.TheVariants.{Header};
+ghost use Rattle.graph_core.specs.from_line_text.Common.{Stands, StandsAlone, FirstFault, lines_of, SignificantLine, significant_lines_of, words_of, is_skipped};
+ghost use Rattle.graph_core.specs.from_line_text.declared.faults.FaultKind.{FaultKind};
+ghost use Rattle.graph_core.specs.from_line_text.declared.faults.FaultKind.TheVariants.{Header};
 ghost use Rattle.graph_core.specs.Common.{Graph};
 ghost use Rattle.graph_text.specs.Common.{version_one, FitsVersionOne, either_version, is_version_two, is_named_header, graph_text, named_text, FitsNames};
 

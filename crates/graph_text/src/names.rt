@@ -3,14 +3,14 @@ ghost use Rattle.std.specs.Prelude.{◌≡◌, ◌<◌, ◌≤◌, ◌^◌, ◌+
 ghost use Rattle.std.specs.List.{list_all};
 ghost use Rattle.std.specs.Str.{bytes_eq};
 ghost use Rattle.graph_text.specs.Names.{is_name, is_name_byte, is_among, vertex_of, plain_name, plain_names};
-ghost use Rattle.counting.specs.Common.{Within};
+ghost use Rattle.graph_core.specs.from_counting.Common.{Within};
 
+use graph_core::vset_core::MOST_VERTICES;
 use indexmap::IndexSet;
 use std::alloc::{AllocError as Memory, Global};
 use std::marker::Model;
 use std::str;
 use std::string::String;
-use vset_core::MOST_VERTICES;
 
 // The most bytes of a name.
 const MOST_BYTES: usize = 16;

@@ -1,7 +1,7 @@
 //! Version 1 of the graph format.
 ghost use Rattle.std.specs.Prelude.{◌≡◌, ◌<◌, ◌-◌, ◌^◌, ℕ, length, IfOk, IfErr, Ok, Err};
-ghost use Rattle.line_text.specs.Common.{Gives, Stands, FirstFault, texts_of, IsFirstFault, ReadsText};
-ghost use Rattle.line_text.specs.declared.faults.FaultKind.{FaultKind};
+ghost use Rattle.graph_core.specs.from_line_text.Common.{Gives, Stands, FirstFault, texts_of, IsFirstFault, ReadsText};
+ghost use Rattle.graph_core.specs.from_line_text.declared.faults.FaultKind.{FaultKind};
 ghost use Rattle.graph_core.specs.Common.{Graph};
 ghost use Rattle.graph_text.specs.GraphLines.{GraphSoFar};
 ghost use Rattle.graph_text.specs.SoFar.{so_far};
@@ -10,7 +10,9 @@ ghost use Rattle.graph_text.specs.VersionOne.{version_one, header};
 use crate::body::Body;
 use crate::graph_lines::{close_graph, read_edge};
 use graph_core::MultiGraph;
-use line_text::{FaultKind, LineFormat, Refusal, TextFault, has_form, number, read_text, word};
+use graph_core::line_text::{
+    FaultKind, LineFormat, Refusal, TextFault, has_form, number, read_text, word,
+};
 use std::alloc::Global;
 
 /// The most vertices of a graph in version 1.

@@ -1,8 +1,8 @@
 //! Writing a graph.
 ghost use Rattle.std.specs.Prelude.{◌≡◌, ◌≤◌, ◌++◌, [], ◌∷◌, length, map, Some, OnOk, IfOk, string_bytes};
-ghost use Rattle.counting.specs.Common.{Within};
+ghost use Rattle.graph_core.specs.from_counting.Common.{Within};
 ghost use Rattle.graph_text.specs.Common.{either_version, version_one, most_vertices, most_edges, edge_words, graph_text, name_words, named_edge_words, named_text};
-ghost use Rattle.line_text.specs.Common.{Stands, StandsAlone, written};
+ghost use Rattle.graph_core.specs.from_line_text.Common.{Stands, StandsAlone, written};
 ghost use Rattle.graph_core.specs.Common.{size, pair_of};
 
 use crate::names::Names;

@@ -2,7 +2,7 @@
 -- vertices. By parity each of the joined edges is inside S where S has an odd number of old
 -- vertices, and else each is outside; so S, with the vertex that was given up put on that side,
 -- is all or nothing in both graphs.
-use Rattle.counting.proofs.Common.{◌≡◌, ℕ, suc, ◌+◌, ◌≤◌, ◌≢◌, Bool, true, cond, ◌==◌, ◌&&◌, ◌||◌, not, inl, inr, List, [], ◌∷◌, length, map, filter, refl, sym, ap, ap₂, ◌∙◌, arith, subst, eq-eqb, ne_eqb, Within, bit, Set, none, mem, same_tests}
+use Rattle.graph_core.proofs.from_counting.Common.{◌≡◌, ℕ, suc, ◌+◌, ◌≤◌, ◌≢◌, Bool, true, cond, ◌==◌, ◌&&◌, ◌||◌, not, inl, inr, List, [], ◌∷◌, length, map, filter, refl, sym, ap, ap₂, ◌∙◌, arith, subst, eq-eqb, ne_eqb, Within, bit, Set, none, mem, same_tests}
 use Rattle.graph_core.proofs.Common.{Graph, size, first_end, second_end, IsGraph, has_ends, Joined, Walk, adjacent, joined, IsConnected, adjacent-edge, adjacent_from, has_ends-back, has_ends-cases, has_ends-own, joined_on, joined_self, joined_walk, walk_joined}
 use Rattle.grow_gen.specs.Common.{is_at, end_opposite, edge_with_end, new_number, renumbered_edge, rehung_edges}
 use Rattle.grow_gen.proofs.EdgeSums.{Each, by_test, sum_edges, each-edge, edge-at}

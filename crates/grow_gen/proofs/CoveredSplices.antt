@@ -1,6 +1,6 @@
 -- A splice of two covered cubic graphs is covered. Idea: its edges are allowed, and it is
 -- connected since a set that no edge leaves holds the new ends of all joined edges or of none.
-use Rattle.counting.proofs.Common.{◌≡◌, ℕ, ◌+◌, ◌-◌, ◌*◌, ◌≤◌, ◌<◌, ◌≢◌, Bool, true, ◌&&◌, inl, inr, List, [], ◌∷◌, map, refl, sym, ap, ap₂, ◌∙◌, arith, subst, slice_index_or, Within, bit, count, is_odd, Set, mem, odd-add, odd-double}
+use Rattle.graph_core.proofs.from_counting.Common.{◌≡◌, ℕ, ◌+◌, ◌-◌, ◌*◌, ◌≤◌, ◌<◌, ◌≢◌, Bool, true, ◌&&◌, inl, inr, List, [], ◌∷◌, map, refl, sym, ap, ap₂, ◌∙◌, arith, subst, slice_index_or, Within, bit, count, is_odd, Set, mem, odd-add, odd-double}
 use Rattle.graph_core.proofs.Common.{Graph, size, IsMultigraph, in_cut, inside, IsCovered, parity}
 use Rattle.grow_gen.specs.Common.{IsCubic, is_at, new_number, permutation, renumbered_edge, rehung_edges, splice}
 use Rattle.grow_gen.proofs.EdgeSums.{Each, each-split, total-edges, length-marks_where, marked}

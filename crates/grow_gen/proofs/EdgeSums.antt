@@ -1,7 +1,7 @@
 -- Sums over the edges of a graph, taken along the list of edges with a list of marks for a set of
 -- edges. Idea: a sum from 1 on is its first term and the sum that begins one later, so it follows
 -- the list.
-use Rattle.counting.proofs.Common.{◌≡◌, ℕ, suc, zero, ◌+◌, ◌-◌, ◌≤◌, ◌<◌, Bool, true, false, cond, ◌==◌, ◌&&◌, List, [], ◌∷◌, ◌++◌, length, filter, refl, sym, ap, ap₂, ◌∙◌, arith, subst, slice_index_or, get_or-append-add, get_or_append_left, total_add, total_congr, total-first, Within, bit, total, Set}
+use Rattle.graph_core.proofs.from_counting.Common.{◌≡◌, ℕ, suc, zero, ◌+◌, ◌-◌, ◌≤◌, ◌<◌, Bool, true, false, cond, ◌==◌, ◌&&◌, List, [], ◌∷◌, ◌++◌, length, filter, refl, sym, ap, ap₂, ◌∙◌, arith, subst, slice_index_or, get_or-append-add, get_or_append_left, total_add, total_congr, total-first, Within, bit, total, Set}
 use Rattle.graph_core.proofs.Common.{Graph, size, first_end, second_end, degree, degree_congr}
 
 -- what is true for both values of a test is true for its value

@@ -1,6 +1,6 @@
 -- The parts of a graph with one more piece, and the ends of its edges as the code reads them. Idea:
 -- equal parts make equal graphs, and the edge at place k of the list is edge k + 1.
-use Rattle.counting.proofs.Common.{◌≡◌, ℕ, ◌+◌, ◌-◌, ◌%◌, ◌<◌, List, ◌++◌, length, get_or, map, filter, not, sym, ap, ◌∙◌, arith, subst, slice_index, length-map, Within, mem}
+use Rattle.graph_core.proofs.from_counting.Common.{◌≡◌, ℕ, ◌+◌, ◌-◌, ◌%◌, ◌<◌, List, ◌++◌, length, get_or, map, filter, not, sym, ap, ◌∙◌, arith, subst, slice_index, length-map, Within, mem}
 use Rattle.std.proofs.Math.ListN.{get_or-map}
 use Rattle.graph_core.proofs.Common.{IsMultigraph, size, first_end, second_end, graph_of, pair_of}
 use Rattle.graph_core.specs.declared.ends.Ends.{Ends}

@@ -1,7 +1,7 @@
 -- A splice of graphs without parallel edges has none. Idea: two vertices of one side are joined
 -- by at most the edges that joined them, and an old and a new vertex only by the one edge at w
 -- whose target the new vertex is.
-use Rattle.counting.proofs.Common.{◌≡◌, ℕ, suc, ◌+◌, ◌-◌, ◌≤◌, ◌<◌, ◌≢◌, Bool, true, false, cond, ◌==◌, ◌&&◌, ◌||◌, not, inl, inr, List, [], ◌∷◌, ◌++◌, length, map, filter, refl, sym, ap, ap₂, ◌∙◌, arith, subst, ne_eqb, le_trans, slice_index_or, or_from, and_left, and_right, count_le_one, only_one, total_congr, at_le_total, total-first, Within, bit, total, mem}
+use Rattle.graph_core.proofs.from_counting.Common.{◌≡◌, ℕ, suc, ◌+◌, ◌-◌, ◌≤◌, ◌<◌, ◌≢◌, Bool, true, false, cond, ◌==◌, ◌&&◌, ◌||◌, not, inl, inr, List, [], ◌∷◌, ◌++◌, length, map, filter, refl, sym, ap, ap₂, ◌∙◌, arith, subst, ne_eqb, le_trans, slice_index_or, or_from, and_left, and_right, count_le_one, only_one, total_congr, at_le_total, total-first, Within, bit, total, mem}
 use Rattle.graph_core.proofs.Common.{Graph, size, first_end, second_end, has_ends, IsMultigraph, IsSimple, has_ends-own, has_ends-cases, has_ends-back}
 use Rattle.grow_gen.specs.Common.{IsCubic, is_at, end_opposite, edge_with_end, new_number, permutation, renumbered_edge, rehung_edges, splice}
 use Rattle.grow_gen.proofs.EdgeSums.{Each, by_test, item-next, each-weaker}

@@ -1,6 +1,6 @@
 -- A list of three items in the order of a permutation: what does it keep? Its members, how many
 -- marks are true, and how many of its items that pass are marked.
-use Rattle.counting.proofs.Common.{◌≡◌, ℕ, ◌-◌, ◌<◌, Bool, true, false, ◌⊎◌, List, [], ◌∷◌, length, map, refl, arith, slice_index, slice_index_or, Set, mem}
+use Rattle.graph_core.proofs.from_counting.Common.{◌≡◌, ℕ, ◌-◌, ◌<◌, Bool, true, false, ◌⊎◌, List, [], ◌∷◌, length, map, refl, arith, slice_index, slice_index_or, Set, mem}
 use Rattle.grow_gen.specs.Common.{permutation}
 use Rattle.grow_gen.proofs.Rehanging.{caught}
 use Rattle.grow_gen.proofs.ThreeEdges.{true_count}

@@ -1,6 +1,6 @@
 -- The pieces are cubic, matching covered multigraphs. Idea: tests that compute, with three perfect
 -- matchings that contain all edges, and all vertices reached from vertex 1 along the edges.
-use Rattle.counting.proofs.Common.{◌≡◌, ℕ, ◌≤◌, Bool, true, false, cond, ◌==◌, ◌&&◌, ◌||◌, not, inl, inr, List, [], ◌∷◌, refl, sym, ap, ◌∙◌, arith, eqb-true, nat_le, leb-true, eqb-false, and_parts, or_cases, not-true, true≢false, implied, every_true, Within, Set, everything, none, mem, every}
+use Rattle.graph_core.proofs.from_counting.Common.{◌≡◌, ℕ, ◌≤◌, Bool, true, false, cond, ◌==◌, ◌&&◌, ◌||◌, not, inl, inr, List, [], ◌∷◌, refl, sym, ap, ◌∙◌, arith, eqb-true, nat_le, leb-true, eqb-false, and_parts, or_cases, not-true, true≢false, implied, every_true, Within, Set, everything, none, mem, every}
 use Rattle.graph_core.proofs.Common.{Graph, size, degree, first_end, second_end, has_ends, IsMultigraph, Allowed, is_perfect, IsConnected, IsCovered, IsSimple, is_perfect_true}
 use Rattle.grow_gen.specs.declared.pieces.Piece.{Piece}
 use Rattle.grow_gen.specs.declared.pieces.Piece.TheVariants.{K33, K4, Prism, Cube}

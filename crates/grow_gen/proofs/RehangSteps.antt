@@ -1,6 +1,6 @@
 -- One step along the edges, where those at w get new ends: what is done and what is still to be
 -- done make up the whole.
-use Rattle.counting.proofs.Common.{◌≡◌, ℕ, ◌+◌, ◌<◌, true, false, List, [], ◌∷◌, ◌++◌, length, get_or, set, take, drop, map, sym, ap, ◌∙◌, arith, append_assoc, ◌⊎◌, drop-set-lt, take_more_set, drop_more, take_more, map-append}
+use Rattle.graph_core.proofs.from_counting.Common.{◌≡◌, ℕ, ◌+◌, ◌<◌, true, false, List, [], ◌∷◌, ◌++◌, length, get_or, set, take, drop, map, sym, ap, ◌∙◌, arith, append_assoc, ◌⊎◌, drop-set-lt, take_more_set, drop_more, take_more, map-append}
 use Rattle.graph_core.proofs.Common.{pair_of}
 use Rattle.graph_core.specs.declared.ends.Ends.{Ends}
 use Rattle.grow_gen.specs.Common.{is_at, edge_with_end, rehung_edges}

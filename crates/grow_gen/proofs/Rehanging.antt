@@ -1,7 +1,7 @@
 -- What changes where the edges at w get other ends in the place of w: nothing at the other
 -- vertices, and a new end meets the edges that were given it. Idea: along the list of edges, with
 -- the marks of the edges at w taken out in order.
-use Rattle.counting.proofs.Common.{◌≡◌, ℕ, suc, ◌+◌, ◌≤◌, ◌<◌, ◌≢◌, Bool, true, false, cond, ◌==◌, ◌&&◌, ◌⊎◌, inl, inr, List, [], ◌∷◌, length, refl, sym, ap, ap₂, ◌∙◌, arith, eq-eqb, ne_eqb, or_parts, both_ways, or_left, or_right, bit_and_false, Within, bit, Set, mem}
+use Rattle.graph_core.proofs.from_counting.Common.{◌≡◌, ℕ, suc, ◌+◌, ◌≤◌, ◌<◌, ◌≢◌, Bool, true, false, cond, ◌==◌, ◌&&◌, ◌⊎◌, inl, inr, List, [], ◌∷◌, length, refl, sym, ap, ap₂, ◌∙◌, arith, eq-eqb, ne_eqb, or_parts, both_ways, or_left, or_right, bit_and_false, Within, bit, Set, mem}
 use Rattle.grow_gen.specs.Common.{is_at, end_opposite, edge_with_end, rehung_edges}
 use Rattle.grow_gen.proofs.EdgeSums.{Each, sum_edges, ends_at, by_test, marks_where}
 

@@ -1,7 +1,7 @@
 -- The edges that a spliced graph brings in: those not at its vertex 1, with new numbers for their
 -- ends. Idea: a vertex has all its edges, once those to vertex 1 are counted among the edges that
 -- got new ends.
-use Rattle.counting.proofs.Common.{◌≡◌, ℕ, ◌+◌, ◌-◌, ◌≤◌, ◌<◌, ◌≢◌, Bool, true, cond, ◌==◌, ◌&&◌, not, ◌⊎◌, inl, inr, List, [], ◌∷◌, length, map, filter, refl, sym, ap, ap₂, ◌∙◌, arith, ne_eqb, cases_eq, cases_lt, Within, bit}
+use Rattle.graph_core.proofs.from_counting.Common.{◌≡◌, ℕ, ◌+◌, ◌-◌, ◌≤◌, ◌<◌, ◌≢◌, Bool, true, cond, ◌==◌, ◌&&◌, not, ◌⊎◌, inl, inr, List, [], ◌∷◌, length, map, filter, refl, sym, ap, ap₂, ◌∙◌, arith, ne_eqb, cases_eq, cases_lt, Within, bit}
 use Rattle.grow_gen.specs.Common.{is_at, end_opposite, new_number, renumbered_edge}
 use Rattle.grow_gen.proofs.EdgeSums.{Each, sum_edges, ends_at, by_test, marks_where}
 use Rattle.grow_gen.proofs.Rehanging.{IsEdge, flags_at, caught, not_at-ends, no_end}

@@ -1,6 +1,6 @@
 -- The classes of the skeleton as increasing lists. Idea: an increasing list is fixed by its
 -- members, and all of them are vertices.
-use Rattle.counting.proofs.Common.{◌≡◌, ℕ, suc, zero, ◌+◌, ◌-◌, ◌≤◌, ◌<◌, Bool, true, false, cond, ◌==◌, ◌&&◌, ◌||◌, not, ◌⊎◌, inl, inr, List, [], ◌∷◌, length, get_or, take, map, refl, ◌∙◌, arith, eq-eqb, slice_index, cases_lt, or_cases, or_left, or_right, and_parts, false_from_ne_true, take_more, map-append, mem-append, rising_only, mem-within, same_rising_list, rising_list-rises, mem-rising_list, mem-outside, set-wider, Within, Set, union, mem, rising_list, IsRisingIn}
+use Rattle.graph_core.proofs.from_counting.Common.{◌≡◌, ℕ, suc, zero, ◌+◌, ◌-◌, ◌≤◌, ◌<◌, Bool, true, false, cond, ◌==◌, ◌&&◌, ◌||◌, not, ◌⊎◌, inl, inr, List, [], ◌∷◌, length, get_or, take, map, refl, ◌∙◌, arith, eq-eqb, slice_index, cases_lt, or_cases, or_left, or_right, and_parts, false_from_ne_true, take_more, map-append, mem-append, rising_only, mem-within, same_rising_list, rising_list-rises, mem-rising_list, mem-outside, set-wider, Within, Set, union, mem, rising_list, IsRisingIn}
 use Rattle.grow_gen.specs.declared.pieces.Piece.{Piece}
 use Rattle.grow_gen.specs.Common.{piece_order, is_bipartite_piece, side, new_number, Growth, eligible, next_class}
 use Rattle.grow_gen.proofs.PieceFacts.{piece-two}

@@ -1,7 +1,7 @@
 -- A graph that grows stays a covered cubic multigraph, and each piece finds a vertex. Idea: class
 -- A gets at least two vertices with each bipartite piece and gives up at most one with each other
 -- piece, and no two others come in a row.
-use Rattle.counting.proofs.Common.{◌≡◌, ℕ, ◌+◌, ◌-◌, ◌*◌, ◌%◌, ◌≤◌, ◌<◌, ◌≢◌, Bool, true, false, cond, ◌==◌, ◌&&◌, ◌||◌, not, inl, inr, List, [], ◌∷◌, length, map, filter, refl, sym, ap₂, ◌∙◌, arith, eq-eqb, ne_eqb, slice_index, mod_below, length-append, length-map, cases_eq, cases_Bool, or_left, or_right, true≢false, rising_holds, mem-within, some-member, rising_list-rises, Within, union, mem, rising_list, IsRisingIn}
+use Rattle.graph_core.proofs.from_counting.Common.{◌≡◌, ℕ, ◌+◌, ◌-◌, ◌*◌, ◌%◌, ◌≤◌, ◌<◌, ◌≢◌, Bool, true, false, cond, ◌==◌, ◌&&◌, ◌||◌, not, inl, inr, List, [], ◌∷◌, length, map, filter, refl, sym, ap₂, ◌∙◌, arith, eq-eqb, ne_eqb, slice_index, mod_below, length-append, length-map, cases_eq, cases_Bool, or_left, or_right, true≢false, rising_holds, mem-within, some-member, rising_list-rises, Within, union, mem, rising_list, IsRisingIn}
 use Rattle.graph_core.proofs.Common.{size, IsMultigraph, IsCovered, IsSimple}
 use Rattle.grow_gen.specs.declared.pieces.Piece.{Piece}
 use Rattle.grow_gen.specs.declared.pieces.Piece.TheVariants.{K33, K4, Prism, Cube}

@@ -1,7 +1,7 @@
 -- Is a splice of two covered cubic graphs a covered cubic graph? Yes: a perfect matching of each
 -- that agree on the edges that are joined give one of the splice, and each edge is in such a pair
 -- since each of the joined edges is allowed.
-use Rattle.counting.proofs.Common.{◌≡◌, ℕ, ◌+◌, ◌-◌, ◌≤◌, ◌<◌, ◌≢◌, Bool, true, ◌==◌, not, ◌⊎◌, inl, inr, List, [], ◌∷◌, ◌++◌, length, map, filter, refl, sym, ap, ap₂, ◌∙◌, arith, subst, slice_index_or, length-append, length-map, cases_lt, true≢false, Within, bit, everything, none, mem}
+use Rattle.graph_core.proofs.from_counting.Common.{◌≡◌, ℕ, ◌+◌, ◌-◌, ◌≤◌, ◌<◌, ◌≢◌, Bool, true, ◌==◌, not, ◌⊎◌, inl, inr, List, [], ◌∷◌, ◌++◌, length, map, filter, refl, sym, ap, ap₂, ◌∙◌, arith, subst, slice_index_or, length-append, length-map, cases_lt, true≢false, Within, bit, everything, none, mem}
 use Rattle.graph_core.proofs.Common.{Graph, size, degree, IsMultigraph, IsPerfect, Allowed, IsCovered, degree_congr}
 use Rattle.grow_gen.specs.Common.{IsCubic, is_at, neighbours, new_number, permutation, renumbered_edge, rehung_edges, targets_of, splice}
 use Rattle.grow_gen.proofs.EdgeSums.{Each, sum_edges, sum_edges-append, ends_at, marks_from, marked, marked-front, marked-back, each-append, edge-at, edge-at_place, each-weaker, degree-marked, length-marks_from, length-marks_where, marked-marks_from}

@@ -1,6 +1,6 @@
 -- The three edges at a vertex of a cubic graph. Idea: the marks of the edges at a vertex are a
 -- list of three, and exactly one of them is true for a perfect matching.
-use Rattle.counting.proofs.Common.{◌≡◌, ℕ, ◌+◌, ◌<◌, Bool, true, false, cond, ◌==◌, List, [], ◌∷◌, length, filter, refl, sym, ap, ◌∙◌, arith, slice_index_or, Within, bit, Set, everything, none}
+use Rattle.graph_core.proofs.from_counting.Common.{◌≡◌, ℕ, ◌+◌, ◌<◌, Bool, true, false, cond, ◌==◌, List, [], ◌∷◌, length, filter, refl, sym, ap, ◌∙◌, arith, slice_index_or, Within, bit, Set, everything, none}
 use Rattle.graph_core.proofs.Common.{Graph, size, degree, IsMultigraph, IsPerfect, IsCovered, degree_congr}
 use Rattle.grow_gen.specs.Common.{IsCubic, is_at}
 use Rattle.grow_gen.proofs.EdgeSums.{Each, sum_edges, ends_at, by_test, marks_from, marked, each-edge, edge-at_place, degree-marks, degree-marked, length-marks_from, length-marks_where, marked-marks_from}

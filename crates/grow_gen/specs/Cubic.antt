@@ -1,7 +1,7 @@
 -- Cubic graphs. Any textbook.
 -- Stated by: grow_gen, theorems.
 use Rattle.std.specs.Prelude.{◌≡◌, ℕ}
-use Rattle.counting.specs.Common.{Within, everything}
+use Rattle.graph_core.specs.from_counting.Common.{Within, everything}
 use Rattle.graph_core.specs.Common.{Graph, degree}
 
 -- each vertex has degree three

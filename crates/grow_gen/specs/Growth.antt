@@ -3,7 +3,7 @@
 -- space-efficient statistically good algorithms for random number generation").
 -- Stated by: grow_gen. Used by: bench_outcomes, bench_top, theorems.
 use Rattle.std.specs.Prelude.{ℕ, zero, suc, ◌+◌, ◌-◌, ◌%◌, ◌≤◌, ◌<◌, Bool, List, [], ◌∷◌, ◌==◌, ◌&&◌, ◌||◌, not, map, length, slice_index, if◌then◌else◌}
-use Rattle.counting.specs.Common.{union, mem, rising_list, IsRisingIn}
+use Rattle.graph_core.specs.from_counting.Common.{union, mem, rising_list, IsRisingIn}
 use Rattle.graph_core.specs.Common.{Graph}
 use Rattle.rand_pcg.specs.Lcg.{Lcg, started, increment_of}
 use Rattle.rand_pcg.specs.Pcg.{pcg32, multiplier_64}

@@ -1,6 +1,6 @@
 //! The generator.
 ghost use Rattle.std.specs.Prelude.{◌≡◌, IfOk};
-ghost use Rattle.counting.specs.Common.{Within};
+ghost use Rattle.graph_core.specs.from_counting.Common.{Within};
 ghost use Rattle.graph_core.specs.Common.{IsCovered, IsWithinLimits, IsSimple};
 ghost use Rattle.grow_gen.specs.Common.{IsCubic, grown};
 

@@ -1,14 +1,14 @@
 //! A graph that grows, piece by piece.
 ghost use Rattle.std.specs.Prelude.{◌≡◌, ◌<◌, ◌≤◌, ◌+◌, ◌%◌, IfOk, ℕ, length, slice_index};
-ghost use Rattle.counting.specs.Common.{Within, mem, IsRisingIn};
+ghost use Rattle.graph_core.specs.from_counting.Common.{Within, mem, IsRisingIn};
 ghost use Rattle.graph_core.specs.Common.{IsWithinLimits};
 ghost use Rattle.grow_gen.specs.Common.{piece_order, first_growth, eligible, next_class, with_piece, MayTake, growth_of};
 
 use crate::pieces::Piece;
 use crate::splices;
+use graph_core::vset_core::{MOST_VERTICES, VSet};
 use graph_core::{Ends, MultiGraph};
 use std::alloc::{AllocError as Memory, Global};
-use vset_core::{MOST_VERTICES, VSet};
 
 /// A growing graph, with the two classes of its skeleton.
 #[derive(Drop)]

@@ -1,6 +1,6 @@
 //! The laws on splices and on grown graphs. Each is the contract of a function that does nothing.
 ghost use Rattle.std.specs.Prelude.{◌≡◌, ℕ, ◌<◌, ◌≤◌};
-ghost use Rattle.counting.specs.Common.{Within};
+ghost use Rattle.graph_core.specs.from_counting.Common.{Within};
 ghost use Rattle.graph_core.specs.Common.{Graph, IsMultigraph, IsCovered, IsSimple};
 ghost use Rattle.grow_gen.specs.Common.{IsCubic, splice, permutation};
 

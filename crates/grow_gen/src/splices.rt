@@ -5,8 +5,8 @@ ghost use Rattle.grow_gen.specs.Common.{piece_order, piece_ends, piece_graph, ed
 
 use crate::pieces::Piece;
 use graph_core::Ends;
+use graph_core::vset_core::MOST_VERTICES;
 use std::alloc::AllocError as Memory;
-use vset_core::MOST_VERTICES;
 
 /// The number that vertex `x`, 2 or greater, of a piece gets when it is spliced at `w` into a
 /// graph of `n` vertices.

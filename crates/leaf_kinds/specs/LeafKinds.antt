@@ -2,7 +2,7 @@
 -- "Perfect Matchings").
 -- Stated by: leaf_kinds, mcg6_lines. Used by: bench_outcomes, theorems.
 use Rattle.std.specs.Prelude.{ℕ, ◌≤◌, List, Option, Some, None}
-use Rattle.counting.specs.Common.{mem}
+use Rattle.graph_core.specs.from_counting.Common.{mem}
 use Rattle.graph_core.specs.Common.{Graph, IsBipartite, IsBicritical, IsCutPair, IsTight, IsNontrivial, HasOnlyTrivialTightCuts}
 use Rattle.graph_core.specs.declared.verdict.Kind.{Kind}
 use Rattle.graph_core.specs.declared.verdict.Kind.TheVariants.{Brace, Brick, Composite}

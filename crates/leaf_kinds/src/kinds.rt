@@ -1,16 +1,16 @@
 //! The kind of a covered graph.
 ghost use Rattle.std.specs.Prelude.{◌≡◌, ◌↔◌, IfOk, None, Some};
-ghost use Rattle.counting.specs.Common.{mem};
+ghost use Rattle.graph_core.specs.from_counting.Common.{mem};
 ghost use Rattle.graph_core.specs.Common.{IsCovered, HasOnlyTrivialTightCuts, IsNontrivial, IsTight};
 ghost use Rattle.tight_cuts.specs.Common.{candidates, first_shore};
 ghost use Rattle.leaf_kinds.specs.LeafKinds.{IsKind, IsThreeConnectedAndBicritical, cut_of};
 
+use graph_core::vset_core::VSet;
 use graph_core::{Kind, MultiGraph};
-use graph_facts::Covered;
-use separation_kit::{FirstPairs, brick_law};
 use std::alloc::{AllocError as Memory, Global};
 use tight_cuts::first_cut;
-use vset_core::VSet;
+use tight_cuts::graph_facts::Covered;
+use tight_cuts::separation_kit::{FirstPairs, brick_law};
 
 /// The kind of a covered graph (Lovász 1987): composite if and only if it has a nontrivial tight
 /// cut, with the shore that `find_any` returns; otherwise a brace if it is bipartite, and a brick

@@ -2,7 +2,7 @@
 -- vertices it then misses. A row is left if and only if its edge has no end in the set. If the set
 -- contains the ends of edges of a perfect matching and of one more edge, then at most one more edge
 -- is taken out than there are such edges, since that one has two ends.
-use Rattle.counting.proofs.Common.{◌≡◌, ℕ, suc, ◌+◌, ◌*◌, ◌≤◌, ◌≢◌, Bool, true, false, ◌==◌, ◌&&◌, ◌||◌, ◌⊎◌, not, refl, ap, ap₂, ◌∙◌, arith, List, [], ◌∷◌, length, map, filter, cond, inl, inr, All, All-filter, both_ways, cases_Bool, cases_eq, and_parts, or_cases, or_left, or_right, not-true, length-map, count_put, count_complement, count_mem_length, count_split, total_add, total_congr, total_le, total_none, bit_le_one, Within, bit, count, total, IsRisingIn, mem, Set, none, put, meet}
+use Rattle.graph_core.proofs.from_counting.Common.{◌≡◌, ℕ, suc, ◌+◌, ◌*◌, ◌≤◌, ◌≢◌, Bool, true, false, ◌==◌, ◌&&◌, ◌||◌, ◌⊎◌, not, refl, ap, ap₂, ◌∙◌, arith, List, [], ◌∷◌, length, map, filter, cond, inl, inr, All, All-filter, both_ways, cases_Bool, cases_eq, and_parts, or_cases, or_left, or_right, not-true, length-map, count_put, count_complement, count_mem_length, count_split, total_add, total_congr, total_le, total_none, bit_le_one, Within, bit, count, total, IsRisingIn, mem, Set, none, put, meet}
 use Rattle.graph_core.proofs.Common.{Graph, IsGraph, degree, first_end, second_end, size, IsMatching, IsPerfect, missed_count, edge_at, ends_of, missed_edges, sum_degrees, two_ends_le_degree, perfect_matching, perfect_misses}
 use Rattle.match_core.specs.Common.{IsOf, IsRowOf, KeepsMatching, MatchingValue, edges_of, has_end_in, is_clear, left_over}
 use Rattle.match_search.specs.Common.{MeetOnce}

@@ -1,7 +1,7 @@
 -- What a matching with a frame is: maximum, with the Gallai-Edmonds sets as its outer and inner
 -- vertices; perfect if and only if there is no outer vertex. A missed vertex is outer, and an outer
 -- vertex is missed by some matching of the same size.
-use Rattle.counting.proofs.Common.{◌≡◌, ℕ, ◌≤◌, ◌<◌, ◌≢◌, Bool, true, false, ◌==◌, ◌↔◌, refl, sym, ap, arith, List, [], ◌∷◌, length, subst, inl, inr, eq-eqb, both_ways, true≢false, false_from_ne_true, mem-rising_list, set-narrower, fun_ext, Within, count, is_odd, Set, none, mem, rising_list, IsRisingIn}
+use Rattle.graph_core.proofs.from_counting.Common.{◌≡◌, ℕ, ◌≤◌, ◌<◌, ◌≢◌, Bool, true, false, ◌==◌, ◌↔◌, refl, sym, ap, arith, List, [], ◌∷◌, length, subst, inl, inr, eq-eqb, both_ways, true≢false, false_from_ne_true, mem-rising_list, set-narrower, fun_ext, Within, count, is_odd, Set, none, mem, rising_list, IsRisingIn}
 use Rattle.graph_core.proofs.Common.{Graph, IsGraph, degree, size, IsMatching, IsMaximum, IsPerfect, HasPerfect, Attains, InD, InA, joined, degree_congr, edge_of, missed_edges, has_ends-from, perfect_matching, perfect_misses, missed_one, adjacent_from}
 use Rattle.match_search.specs.Common.{Frame, HasFrame, HasMates, numbers, marks, IsBest}
 use Rattle.match_search.specs.declared.best.Best.{Best}

@@ -1,7 +1,7 @@
 -- Gallai's lemma: if each vertex is missed by some maximum matching, none misses two vertices of
 -- one component. By induction on a walk between the two, and an exchange of one edge that makes two
 -- maximum matchings share one more edge.
-use Rattle.counting.proofs.Common.{◌≡◌, ℕ, suc, zero, ◌+◌, ◌≤◌, ◌<◌, ◌≢◌, Bool, true, false, cond, ◌==◌, refl, sym, ap, ◌∙◌, arith, ◌&&◌, not, eq-eqb, ne_eqb, eqb-true, inl, inr, subst, List, [], ◌∷◌, cases_eq, cases_Bool, cases_order, both_ways, count_put, bit_true, count_congr, count_le_one, some_term, total_add, total_congr, total_le, two_le_total, and_comm, Within, bit, count, total, Set, put}
+use Rattle.graph_core.proofs.from_counting.Common.{◌≡◌, ℕ, suc, zero, ◌+◌, ◌≤◌, ◌<◌, ◌≢◌, Bool, true, false, cond, ◌==◌, refl, sym, ap, ◌∙◌, arith, ◌&&◌, not, eq-eqb, ne_eqb, eqb-true, inl, inr, subst, List, [], ◌∷◌, cases_eq, cases_Bool, cases_order, both_ways, count_put, bit_true, count_congr, count_le_one, some_term, total_add, total_congr, total_le, two_le_total, and_comm, Within, bit, count, total, Set, put}
 use Rattle.graph_core.proofs.Common.{add_edge, bit_other, bit_same, degree_put, edge_at, edge_of, ends_le_degree, ends_of, ends_of_is, missed_edges, shared, shared_le, shared_put, two_ends_le_degree, adjacent-edge, adjacent_within, Graph, IsGraph, degree, size, HasEnds, IsMaximum, missed_count, Walk, adjacent}
 
 -- two maximum matchings, of which one misses u and v and the other t: the second can be made more

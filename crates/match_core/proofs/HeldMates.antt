@@ -1,6 +1,6 @@
 -- An instance of a whole graph holds the mates of each of its matchings, and goes on to hold them
 -- when it is put back. What is true of each row of a list holds when a row is put at its end.
-use Rattle.counting.proofs.Common.{◌≡◌, ℕ, ◌+◌, ◌++◌, ◌∷◌, [], arith, List, length, get_or_at, cases_eq, get_or_append_left, Within, item, Set}
+use Rattle.graph_core.proofs.from_counting.Common.{◌≡◌, ℕ, ◌+◌, ◌++◌, ◌∷◌, [], arith, List, length, get_or_at, cases_eq, get_or_append_left, Within, item, Set}
 use Rattle.graph_core.proofs.Common.{degree_congr, Graph, size}
 use Rattle.match_search.specs.Common.{IsInstance, HasMates, numbers, AreAlike}
 use Rattle.match_search.specs.declared.instance.Instance.{Instance}

@@ -1,6 +1,6 @@
 -- The rows of a matching with one row more, in the order of their edges. Idea: their edges are an
 -- increasing list with the same members as that of the marked edges, so the two are one list.
-use Rattle.counting.proofs.Common.{◌≡◌, ℕ, suc, ◌+◌, ◌≤◌, ◌<◌, ◌==◌, ◌||◌, ◌&&◌, List, [], ◌∷◌, ◌++◌, Bool, true, nat_lt, filter, map, All, refl, sym, ◌∙◌, ap, ap₂, subst, inl, inr, arith, lt-ltb, eq-eqb, ne_eqb, All-cons, All-append, All-filter, cases_lt, cases_eq, list-from_test, map-append, mem-append, rising_list, rises-from_set, set-from_rises, Rises, Within, mem, put}
+use Rattle.graph_core.proofs.from_counting.Common.{◌≡◌, ℕ, suc, ◌+◌, ◌≤◌, ◌<◌, ◌==◌, ◌||◌, ◌&&◌, List, [], ◌∷◌, ◌++◌, Bool, true, nat_lt, filter, map, All, refl, sym, ◌∙◌, ap, ap₂, subst, inl, inr, arith, lt-ltb, eq-eqb, ne_eqb, All-cons, All-append, All-filter, cases_lt, cases_eq, list-from_test, map-append, mem-append, rising_list, rises-from_set, set-from_rises, Rises, Within, mem, put}
 use Rattle.graph_core.proofs.Common.{Graph, first_end, second_end, size}
 use Rattle.match_core.specs.Common.{MatchingValue, IsOf, IsRowOf, KeepsMatching, edges_of, inserted, row_at}
 use Rattle.match_core.specs.declared.matching.MatchRow.{MatchRow}

@@ -13,3 +13,5 @@ pub mod PairedEdges
 pub mod ClearedMatchings
 pub mod PartnerRows
 pub mod RowMates
+-- Passed on to the crates above: from_NAME is all that the crate NAME has in its folder of this name.
+pub use Rattle.match_search.proofs as from_match_search

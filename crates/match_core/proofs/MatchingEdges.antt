@@ -1,7 +1,7 @@
 -- The edges of the rows of a matching are a matching: a vertex occurs in the rows as often as edges
 -- meet it. A degree is a sum over the edges in the set, and that sum goes along the increasing list
 -- of the rows.
-use Rattle.counting.proofs.Common.{length, inr, eqb-true, ◌||◌, ◌≡◌, ℕ, suc, ◌+◌, ◌≤◌, Bool, false, ◌==◌, refl, sym, ap, ap₂, ◌∙◌, arith, List, [], ◌∷◌, ◌++◌, map, filter, cond, subst, inl, All, sum_by, slice_index_or, rules, All-filter, both_ways, cases_Bool, false_from_ne_true, or_cases, map-append, All-map, sum_by-cons, Rises, total_mem, rises-from_set, rising_holds, rising_only, mem-within, set-from_rises, rising_list-rises, mem-rising_list, Within, bit, Set, none, mem, rising_list, IsRisingIn}
+use Rattle.graph_core.proofs.from_counting.Common.{length, inr, eqb-true, ◌||◌, ◌≡◌, ℕ, suc, ◌+◌, ◌≤◌, Bool, false, ◌==◌, refl, sym, ap, ap₂, ◌∙◌, arith, List, [], ◌∷◌, ◌++◌, map, filter, cond, subst, inl, All, sum_by, slice_index_or, rules, All-filter, both_ways, cases_Bool, false_from_ne_true, or_cases, map-append, All-map, sum_by-cons, Rises, total_mem, rises-from_set, rising_holds, rising_only, mem-within, set-from_rises, rising_list-rises, mem-rising_list, Within, bit, Set, none, mem, rising_list, IsRisingIn}
 use Rattle.graph_core.proofs.Common.{degree_congr, degree_sum, ends_of, Graph, IsGraph, degree, size, IsMatching, graph_of}
 use Rattle.graph_core.specs.declared.ends.Ends.{Ends}
 use Rattle.match_search.proofs.WholeGraphs.{whole_graph, whole_size}

@@ -1,7 +1,7 @@
 -- The row of mates names an edge of the matching at each vertex that it meets. What does a row say?
 -- The other end of the edge at a vertex, that a perfect matching has one at each, and which
 -- vertices the matching misses.
-use Rattle.counting.proofs.Common.{◌≡◌, ℕ, ◌-◌, ◌≢◌, true, false, cond, ◌==◌, ◌&&◌, not, arith, List, [], length, nat_lt, nat_le, lt-ltb, le-leb, and_parts, total_none, Within, Set, mem}
+use Rattle.graph_core.proofs.from_counting.Common.{◌≡◌, ℕ, ◌-◌, ◌≢◌, true, false, cond, ◌==◌, ◌&&◌, not, arith, List, [], length, nat_lt, nat_le, lt-ltb, le-leb, and_parts, total_none, Within, Set, mem}
 use Rattle.graph_core.proofs.Common.{graph_of, HasEnds, size, IsPerfect, missed_count}
 use Rattle.graph_core.specs.declared.ends.Ends.{Ends}
 use Rattle.match_search.specs.Common.{NamesEdges, numbers, end_a, end_b, Misses}

@@ -1,7 +1,7 @@
 -- A certificate has as many classes as there are odd components, and a frame gives the
 -- Gallai-Edmonds sets. A class is a union of components, one of them odd; a matching of the
 -- certified size is tight at each vertex.
-use Rattle.counting.proofs.Common.{◌≡◌, ℕ, suc, zero, ◌+◌, ◌*◌, ◌≤◌, ◌<◌, Bool, true, false, ◌==◌, sym, ap, ◌∙◌, arith, ◌&&◌, eqb-true, ◌⊎◌, inl, inr, nat_lt, List, [], ◌∷◌, ltb-true, both_ways, true≢false, false_from_ne_true, or_parts, odd_pos, odd_total, total_congr, total_le, total_mul, total_swap, total_ones, bit_times_le, Within, bit, count, is_odd, total, Set, complement, none, union}
+use Rattle.graph_core.proofs.from_counting.Common.{◌≡◌, ℕ, suc, zero, ◌+◌, ◌*◌, ◌≤◌, ◌<◌, Bool, true, false, ◌==◌, sym, ap, ◌∙◌, arith, ◌&&◌, eqb-true, ◌⊎◌, inl, inr, nat_lt, List, [], ◌∷◌, ltb-true, both_ways, true≢false, false_from_ne_true, or_parts, odd_pos, odd_total, total_congr, total_le, total_mul, total_swap, total_ones, bit_times_le, Within, bit, count, is_odd, total, Set, complement, none, union}
 use Rattle.graph_core.proofs.Common.{joined_walk, one_leader, some_leader, none_matching, missed_edges, adjacent-edge, has_ends-cases, berge_bound, is_least, odd_component_count, Graph, IsGraph, degree, first_end, second_end, size, HasEnds, IsMatching, IsMaximum, missed_count, Joined, Walk, adjacent, joined}
 use Rattle.match_search.proofs.Certificates.{class_sum, certificate_bound, certificate_tight}
 use Rattle.match_search.proofs.StepTheorem.{step}

@@ -1,7 +1,7 @@
 -- The outer vertices of a frame are those in odd components of G - R without the inner ones. Odd
 -- components ranked by least vertex are a labelling; an even component put outside the classes
 -- leaves them odd.
-use Rattle.counting.proofs.Common.{◌≡◌, ℕ, ◌+◌, ◌*◌, Bool, true, false, cond, ◌==◌, refl, sym, ap, ap₂, ◌∙◌, arith, ◌&&◌, not, inl, inr, nat_lt, [], ◌∷◌, le-ltb, rules, cases_Bool, both_ways, false_from_ne_true, and_parts, or_parts, bit_true, count_congr, odd-add, some_term, total_add, total_congr, total_none, total_tight, bit_times_le, Within, bit, count, is_odd, total, Set, union}
+use Rattle.graph_core.proofs.from_counting.Common.{◌≡◌, ℕ, ◌+◌, ◌*◌, Bool, true, false, cond, ◌==◌, refl, sym, ap, ap₂, ◌∙◌, arith, ◌&&◌, not, inl, inr, nat_lt, [], ◌∷◌, le-ltb, rules, cases_Bool, both_ways, false_from_ne_true, and_parts, or_parts, bit_true, count_congr, odd-add, some_term, total_add, total_congr, total_none, total_tight, bit_times_le, Within, bit, count, is_odd, total, Set, union}
 use Rattle.graph_core.proofs.Common.{joined_outside, joined_walk, some_leader, walk_joined, adjacent_from, has_ends-back, has_ends-own, joined_back, joined_on, joined_self, is_least, odd_component_count, Graph, IsGraph, first_end, second_end, size, IsMatching, Joined, joined}
 use Rattle.match_search.proofs.Certificates.{certificate_tight}
 use Rattle.match_core.proofs.OddComponents.{certificate_components, classes_leaders, outer_free, same_class}

@@ -1,6 +1,6 @@
 -- A pass over the edges that names for each vertex the least edge that joins it to its mate. The
 -- edges that it names are those that marks on the least edges of the pairs would mark.
-use Rattle.counting.proofs.Common.{◌≡◌, ◌≢◌, ℕ, suc, ◌<◌, ◌+◌, ◌-◌, ◌==◌, ◌||◌, ◌⊎◌, not, true, refl, sym, ap, ap₂, ◌∙◌, arith, subst, List, length, eq-eqb, ne_eqb, cases_eq, Within, Set, none, put}
+use Rattle.graph_core.proofs.from_counting.Common.{◌≡◌, ◌≢◌, ℕ, suc, ◌<◌, ◌+◌, ◌-◌, ◌==◌, ◌||◌, ◌⊎◌, not, true, refl, sym, ap, ap₂, ◌∙◌, arith, subst, List, length, eq-eqb, ne_eqb, cases_eq, Within, Set, none, put}
 use Rattle.graph_core.proofs.Common.{Graph, graph_of, first_end, second_end, size}
 use Rattle.graph_core.specs.declared.ends.Ends.{Ends}
 use Rattle.match_search.specs.Common.{AreEnds, HasMates, NamesEdges, end_a, end_b, numbers, with_mate}

@@ -4,7 +4,7 @@
 -- since both miss one vertex of an odd number. If more than one vertex is missed, no matching
 -- misses only one. A perfect matching of G - R - u - v misses just u and v, so if there are
 -- partners, a maximum matching misses none or two.
-use Rattle.counting.proofs.Common.{◌≡◌, ◌≢◌, ℕ, ◌+◌, ◌-◌, ◌*◌, ◌≤◌, ◌↔◌, List, length, Bool, true, false, ◌==◌, ◌&&◌, ◌||◌, not, refl, sym, ap, ◌∙◌, arith, inl, inr, eq-eqb, ne_eqb, or_false, both_ways, cases_Bool, cases_eq, false_from_ne_true, and_from, and_parts, not-true, or_left, or_right, count_complement, count_congr, count_le, count_le_one, only_one, count_mem_length, count_plus, set-narrower, Within, count, Set, complement, pair_set, singleton, union, mem, IsRisingIn}
+use Rattle.graph_core.proofs.from_counting.Common.{◌≡◌, ◌≢◌, ℕ, ◌+◌, ◌-◌, ◌*◌, ◌≤◌, ◌↔◌, List, length, Bool, true, false, ◌==◌, ◌&&◌, ◌||◌, not, refl, sym, ap, ◌∙◌, arith, inl, inr, eq-eqb, ne_eqb, or_false, both_ways, cases_Bool, cases_eq, false_from_ne_true, and_from, and_parts, not-true, or_left, or_right, count_complement, count_congr, count_le, count_le_one, only_one, count_mem_length, count_plus, set-narrower, Within, count, Set, complement, pair_set, singleton, union, mem, IsRisingIn}
 use Rattle.graph_core.proofs.Common.{Graph, IsGraph, degree, size, HasPerfect, IsMatching, IsPerfect, has_perfect, missed_count, has_perfect_found, has_perfect_says, missed_edges, missed_one, perfect_matching, perfect_misses}
 use Rattle.match_search.specs.Common.{Frame, IsMissableRow, IsBest, marks}
 use Rattle.match_core.specs.Common.{AreEmptyRows, ArePartners, are_partners}

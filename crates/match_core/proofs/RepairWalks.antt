@@ -1,7 +1,7 @@
 -- The walk from one missed vertex to the other, edge by edge of a perfect matching and of the
 -- given one in turn, in rows: how does it go on, and where does it end? Each turn makes the path
 -- longer by two edges; where the given matching ends, the path is whole and repairs it.
-use Rattle.counting.proofs.Common.{◌≡◌, ℕ, suc, zero, ◌+◌, ◌<◌, ◌≢◌, true, false, ◌==◌, ◌&&◌, not, refl, sym, ap, ap₂, ◌∙◌, arith, List, [], ◌∷◌, ◌++◌, length, inl, inr, ◌⊎◌, subst, get_or-append, cases_eq, cases_lt, cases_order, false_from_ne_true, and_right, length-append, two_le_total, total_add, total_congr, total_at, Within, bit, count, total, Set, put}
+use Rattle.graph_core.proofs.from_counting.Common.{◌≡◌, ℕ, suc, zero, ◌+◌, ◌<◌, ◌≢◌, true, false, ◌==◌, ◌&&◌, not, refl, sym, ap, ap₂, ◌∙◌, arith, List, [], ◌∷◌, ◌++◌, length, inl, inr, ◌⊎◌, subst, get_or-append, cases_eq, cases_lt, cases_order, false_from_ne_true, and_right, length-append, two_le_total, total_add, total_congr, total_at, Within, bit, count, total, Set, put}
 use Rattle.std.proofs.lemmas.List.{get_or-append_right}
 use Rattle.match_search.proofs.Forests.{met, turned}
 use Rattle.match_search.proofs.LongerPaths.{end_within, longer, longer_below, longer_at, longer_after}

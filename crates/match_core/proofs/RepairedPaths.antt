@@ -1,6 +1,6 @@
 -- The given matching is exchanged along a whole row: how does the repaired one differ from it? By
 -- the path of the row, from one missed vertex to the other.
-use Rattle.counting.proofs.Common.{◌≡◌, ℕ, suc, zero, ◌+◌, ◌-◌, ◌/◌, ◌≤◌, ◌<◌, ◌≢◌, Bool, true, false, cond, not, refl, sym, ap, ap₂, ◌∙◌, arith, List, length, inl, inr, subst, nat_lt, lt-ltb, le-ltb, both_ways, cases_eq, cases_lt, odd-double, fun_ext, Within, is_odd, Set, put}
+use Rattle.graph_core.proofs.from_counting.Common.{◌≡◌, ℕ, suc, zero, ◌+◌, ◌-◌, ◌/◌, ◌≤◌, ◌<◌, ◌≢◌, Bool, true, false, cond, not, refl, sym, ap, ap₂, ◌∙◌, arith, List, length, inl, inr, subst, nat_lt, lt-ltb, le-ltb, both_ways, cases_eq, cases_lt, odd-double, fun_ext, Within, is_odd, Set, put}
 use Rattle.match_search.proofs.LongerPaths.{ends_by}
 use Rattle.graph_core.proofs.Common.{Graph, HasEnds, IsGraph, size, IsMatching}
 use Rattle.match_search.specs.Common.{IsAlternating, flipped, same_answer, numbers, part, DiffersByPath, IsRepairRow, Misses, difference}

@@ -1,7 +1,7 @@
 -- The mates that a pass over the rows of a matching names, where it leaves out the rows that meet a
 -- set, are those of the edges that it does not leave out. Idea: an edge that is left is the edge of
 -- a row, and the row names its ends.
-use Rattle.counting.proofs.Common.{◌≡◌, ℕ, ◌<◌, List, Some, true, refl, inl, inr, sym, ap, ◌∙◌, arith, not, length, map, suc, ◌∷◌, [], ◌==◌, false, zero, ◌≤◌, ◌+◌, eqb-true, slice_get, get_or_from_slice_get, fun_ext, Set, mem, and_from, and_parts, or_cases, cases_eq, or_right, both_ways}
+use Rattle.graph_core.proofs.from_counting.Common.{◌≡◌, ℕ, ◌<◌, List, Some, true, refl, inl, inr, sym, ap, ◌∙◌, arith, not, length, map, suc, ◌∷◌, [], ◌==◌, false, zero, ◌≤◌, ◌+◌, eqb-true, slice_get, get_or_from_slice_get, fun_ext, Set, mem, and_from, and_parts, or_cases, cases_eq, or_right, both_ways}
 use Rattle.graph_core.proofs.Common.{Graph, HasEnds, IsMatching, degree, edge_at, first_end, second_end}
 use Rattle.match_search.specs.Common.{HasMates, numbers, with_mate, with_pair}
 use Rattle.match_search.proofs.MatePairs.{with_here, with_there}

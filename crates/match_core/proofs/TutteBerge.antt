@@ -1,7 +1,7 @@
 -- The law of Tutte and Berge for every graph and every removed set. By induction on the vertices
 -- that are left: a vertex that all maximum matchings meet joins the set; else Gallai's lemma
 -- counts each component.
-use Rattle.counting.proofs.Common.{◌≡◌, ℕ, suc, zero, ◌+◌, ◌*◌, ◌≤◌, ◌<◌, ◌≢◌, Bool, true, false, ◌==◌, refl, sym, ap, ◌∙◌, arith, ◌&&◌, ◌||◌, not, eq-eqb, ne_eqb, eqb-true, ◌⊎◌, inl, inr, [], ◌∷◌, cases_Bool, and_parts, or_right, both_ways, true≢false, false_from_ne_true, bit-and, count_le_one, count_more, odd-add, odd-double, scan, at_le_total, total_add, total_at, total_congr, total_mul, total_none, total_swap, or_false, fun_ext, Within, bit, count, is_odd, Outside, Set, none, singleton, union}
+use Rattle.graph_core.proofs.from_counting.Common.{◌≡◌, ℕ, suc, zero, ◌+◌, ◌*◌, ◌≤◌, ◌<◌, ◌≢◌, Bool, true, false, ◌==◌, refl, sym, ap, ◌∙◌, arith, ◌&&◌, ◌||◌, not, eq-eqb, ne_eqb, eqb-true, ◌⊎◌, inl, inr, [], ◌∷◌, cases_Bool, and_parts, or_right, both_ways, true≢false, false_from_ne_true, bit-and, count_le_one, count_more, odd-add, odd-double, scan, at_le_total, total_add, total_at, total_congr, total_mul, total_none, total_swap, or_false, fun_ext, Within, bit, count, is_odd, Outside, Set, none, singleton, union}
 use Rattle.graph_core.proofs.Common.{joined_outside, joined_walk, one_leader, some_leader, walk_joined, maximum_exists, missed_or_met, ends_le_degree, ends_of, ends_of_is, missed_edges, degrees, adjacent_from, has_ends-back, has_ends-own, joined_back, joined_on, berge_bound, is_least, odd_component_count, Graph, IsGraph, degree, first_end, has_ends, in_cut, inside, second_end, size, IsMatching, IsMaximum, missed_count, Joined, adjacent, joined}
 use Rattle.match_core.proofs.Gallai.{no_two}
 

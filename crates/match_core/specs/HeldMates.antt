@@ -1,7 +1,7 @@
 -- Mates as the search of the engine represents them.
 -- Stated by: match_core.
 use Rattle.std.specs.Prelude.{◌≡◌, ◌≢◌, ◌<◌, ◌⊎◌, ℕ, List, Some, true, map, slice_get}
-use Rattle.counting.specs.Common.{Set, none, rising_list}
+use Rattle.graph_core.specs.from_counting.Common.{Set, none, rising_list}
 use Rattle.graph_core.specs.Common.{Graph, size, IsMatching}
 use Rattle.match_search.specs.Common.{HasMates, HoldsMatching, numbers}
 use Rattle.match_search.specs.declared.instance.Instance.{Instance}

@@ -2,7 +2,7 @@
 -- Stated by: match_core, allowed_edges, graph_facts, matching_digraph, quick_kinds and 5 more.
 -- Used by: bench_reports, theorems.
 use Rattle.std.specs.Prelude.{◌≡◌, ℕ, ◌+◌, ◌≤◌, Bool, ◌==◌, ◌&&◌, ◌||◌, not, List, [], ◌∷◌, ◌++◌, filter, nat_lt, map, All}
-use Rattle.counting.specs.Common.{Within, bit, Set, IsRisingIn}
+use Rattle.graph_core.specs.from_counting.Common.{Within, bit, Set, IsRisingIn}
 use Rattle.graph_core.specs.Common.{Graph, size, first_end, second_end}
 use Rattle.match_core.specs.declared.matching.MatchRow.{MatchRow}
 

@@ -3,7 +3,7 @@
 -- Stated by: match_core, allowed_edges, graph_facts, separation_kit, tight_cuts and 2 more.
 -- Used by: barrier_kit.
 use Rattle.std.specs.Prelude.{◌≡◌, ℕ, Bool, true, false, List, ◌==◌, ◌&&◌, not, length}
-use Rattle.counting.specs.Common.{Within, Set, pair_set, union, item, mem}
+use Rattle.graph_core.specs.from_counting.Common.{Within, Set, pair_set, union, item, mem}
 use Rattle.graph_core.specs.Common.{Graph, has_perfect}
 
 -- u and v are two different vertices outside r, and g - r - u - v has a perfect matching

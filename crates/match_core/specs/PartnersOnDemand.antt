@@ -1,7 +1,7 @@
 -- Rows of partners that are computed one at a time.
 -- Stated by: match_core. Used by: tight_cuts.
 use Rattle.std.specs.Prelude.{◌≡◌, ℕ, ◌+◌, List, length, true}
-use Rattle.counting.specs.Common.{Within, Set, item, mem}
+use Rattle.graph_core.specs.from_counting.Common.{Within, Set, item, mem}
 use Rattle.graph_core.specs.Common.{Graph}
 use Rattle.match_search.specs.Common.{HasMates, numbers}
 use Rattle.match_core.specs.Partners.{are_partners}

@@ -1,7 +1,7 @@
 -- The found matching of a repair, and the start of its walk.
 -- Stated by: match_core.
 use Rattle.std.specs.Prelude.{◌≡◌, ℕ, ◌+◌, ◌<◌, ◌==◌, not, false, List, length}
-use Rattle.counting.specs.Common.{Set}
+use Rattle.graph_core.specs.from_counting.Common.{Set}
 use Rattle.graph_core.specs.Common.{IsMatching, IsPerfect, missed_count, graph_of}
 use Rattle.graph_core.specs.declared.ends.Ends.{Ends}
 use Rattle.match_search.specs.Common.{IsGraphRow, MarksMates, NamesEdges, Misses, numbers}

@@ -1,14 +1,14 @@
 //! Maximum matchings with a Berge set, and the frame that gives the Gallai-Edmonds sets.
 ghost use Rattle.std.specs.Prelude.{◌≡◌, ℕ, true, false, ◌↔◌, IfOk};
-ghost use Rattle.counting.specs.Common.{Within, count, is_odd, none, mem, IsRisingIn};
+ghost use Rattle.graph_core.specs.from_counting.Common.{Within, count, is_odd, none, mem, IsRisingIn};
 ghost use Rattle.graph_core.specs.Common.{IsMaximum, Attains, InD, InA, joined};
 ghost use Rattle.match_core.specs.Common.{IsOf, edges_of};
 
 use crate::matching::{Matching, matching_by};
 use graph_core::MultiGraph;
+use graph_core::vset_core::VSet;
 use match_search::{FinalSets, Mated, find_mates};
 use std::alloc::{AllocError as Memory, Global};
-use vset_core::VSet;
 
 /// A maximum matching and a Berge set S, which shows it to be maximum: the matching misses exactly
 /// o(S) - |S| vertices, where o(S) is the number of odd components of G - S.

@@ -1,5 +1,5 @@
 //! The theorem of Tutte and Berge.
-ghost use Rattle.counting.specs.Common.{Set, Outside};
+ghost use Rattle.graph_core.specs.from_counting.Common.{Set, Outside};
 ghost use Rattle.graph_core.specs.Common.{Graph, IsGraph, IsBergeSet};
 
 /// The theorem of Tutte and Berge: for every graph G and removed set R some set S outside R is a

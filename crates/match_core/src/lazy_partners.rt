@@ -3,7 +3,7 @@
 //! If only some rows of the table of partners are read, each is computed when it is first read, and
 //! kept.
 ghost use Rattle.std.specs.Prelude.{◌≡◌, ℕ, ◌+◌, length, IfOk};
-ghost use Rattle.counting.specs.Common.{Within, Set, mem};
+ghost use Rattle.graph_core.specs.from_counting.Common.{Within, Set, mem};
 ghost use Rattle.match_core.specs.MatchingRows.{IsOf};
 ghost use Rattle.match_core.specs.Partners.{are_partners};
 ghost use Rattle.match_search.specs.Common.{HasMates, numbers};
@@ -12,10 +12,10 @@ use crate::matching::Matching;
 use crate::mates::mates_off;
 use crate::partner_table::partners_of;
 use graph_core::MultiGraph;
+use graph_core::vset_core::VSet;
 use match_search::{RowSpace, instance_of};
 use std::alloc::{AllocError as Memory, Global};
 use std::marker::Model;
-use vset_core::VSet;
 
 /// The partners of the vertices of G - removed (see `partners`), one row at a time. Contracts see
 /// the graph and the removed vertices.

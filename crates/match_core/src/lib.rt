@@ -23,8 +23,10 @@ mod partner_table;
 mod questions;
 mod repairs;
 
+// Passed on to the crates above.
 pub use frames::{Found, FrameSets, frame, maximum};
 pub use lazy_partners::LazyPartners;
+pub use match_search;
 pub use match_search::FinalSets;
 pub use matching::{MatchRow, Matching, matching_of};
 pub use partner_table::{PartnerTable, all_partners, partners};

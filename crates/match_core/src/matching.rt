@@ -1,16 +1,16 @@
 //! Matchings as lists of rows.
 ghost use Rattle.std.specs.Prelude.{◌≡◌, ℕ, ◌+◌, ◌<◌, ◌≤◌, ◌==◌, ◌||◌, length, map, filter, slice_get, Some, IfOk, All};
-ghost use Rattle.counting.specs.Common.{Within, Set, none, mem, rising_list};
+ghost use Rattle.graph_core.specs.from_counting.Common.{Within, Set, none, mem, rising_list};
 ghost use Rattle.graph_core.specs.Common.{Graph, size, degree, first_end, second_end, graph_of, IsMatching};
 ghost use Rattle.match_search.specs.Common.{HasMates, marks, numbers, IsGraphRow};
 ghost use Rattle.match_core.specs.HeldMates.{ArePairs};
 ghost use Rattle.match_core.specs.MatchingRows.{KeepsMatching, IsOf, edges_of, inserted, is_clear, left_over, row_at};
 
+use graph_core::vset_core::{MOST_VERTICES, VSet};
 use graph_core::{Ends, MOST_EDGES, MultiGraph};
 use match_search::{falses, is_addable, mark_place};
 use std::alloc::{AllocError as Memory, Global};
 use std::marker::Model;
-use vset_core::{MOST_VERTICES, VSet};
 
 /// An edge of a matching with its two ends.
 #[derive(Clone, Copy, Debug, PartialEq, Eq, Drop)]

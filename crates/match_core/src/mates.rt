@@ -1,15 +1,15 @@
 //! The mates of the rows of a matching that meet no vertex of a set.
 ghost use Rattle.std.specs.Prelude.{◌≡◌, ℕ, ◌+◌, ◌-◌, ◌≤◌, length, IfOk, All};
-ghost use Rattle.counting.specs.Common.{Within, mem};
+ghost use Rattle.graph_core.specs.from_counting.Common.{Within, mem};
 ghost use Rattle.match_search.specs.Common.{HasMates, numbers};
 ghost use Rattle.match_core.specs.HeldMates.{NamesRows};
 ghost use Rattle.match_core.specs.MatchingRows.{IsOf, edges_of, left_over};
 
 use crate::matching::Matching;
 use graph_core::MultiGraph;
+use graph_core::vset_core::{MOST_VERTICES, VSet};
 use match_search::join;
 use std::alloc::{AllocError as Memory, Global};
-use vset_core::{MOST_VERTICES, VSet};
 
 /// The mates of the edges of `m` that meet no removed vertex, in one pass over its rows.
 pub(crate) fn mates_off(

@@ -14,7 +14,7 @@
 //! those that some matching of the same size misses. If two are missed, a row takes at most one
 //! more augmentation.
 ghost use Rattle.std.specs.Prelude.{◌≡◌, ◌≢◌, ℕ, ◌+◌, ◌-◌, ◌<◌, ◌≤◌, ◌==◌, ◌&&◌, ◌||◌, not, true, length, IfOk, OnOk};
-ghost use Rattle.counting.specs.Common.{Within, count, Set, none, item, mem};
+ghost use Rattle.graph_core.specs.from_counting.Common.{Within, count, Set, none, item, mem};
 ghost use Rattle.graph_core.specs.Common.{size, IsMatching, missed_count};
 ghost use Rattle.match_core.specs.HeldMates.{HoldsMates};
 ghost use Rattle.match_core.specs.MatchingRows.{IsOf};
@@ -25,10 +25,10 @@ use crate::frames::maximum;
 use crate::matching::Matching;
 use crate::mates::mates_off;
 use graph_core::MultiGraph;
+use graph_core::vset_core::VSet;
 use match_search::{Best, Instance, RowSpace, best_from, instance_of, mates_of, missable_in};
 use std::alloc::{AllocError as Memory, Global};
 use std::marker::Model;
-use vset_core::VSet;
 
 /// For each vertex of a graph the set of its partners. Contracts see the list of these sets, by
 /// vertex.

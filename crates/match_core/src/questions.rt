@@ -1,15 +1,15 @@
 //! Perfect matchings under conditions.
 ghost use Rattle.std.specs.Prelude.{◌≡◌, ◌+◌, length, ◌↔◌, IfOk, Some, None, All};
-ghost use Rattle.counting.specs.Common.{Within, none, mem};
+ghost use Rattle.graph_core.specs.from_counting.Common.{Within, none, mem};
 ghost use Rattle.graph_core.specs.Common.{size, IsPerfect, HasPerfect};
 ghost use Rattle.match_search.specs.Common.{marks, HoldsAll, HasPerfectWith, MeetOnce};
 ghost use Rattle.match_core.specs.Common.{IsOf, edges_of};
 
 use crate::matching::{Matching, matching_of};
+use graph_core::vset_core::VSet;
 use graph_core::{MultiGraph, Numbers};
 use match_search::{Best, falses, find_best, is_addable, is_marked, mark_place, mark_places};
 use std::alloc::{AllocError as Memory, Global};
-use vset_core::VSet;
 
 /// A perfect matching of G - removed, as a matching of `g`; `None` if and only if G - removed has
 /// none. Takes one maximum matching; the only error is `Memory`.

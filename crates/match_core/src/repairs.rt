@@ -1,16 +1,16 @@
 //! A matching that misses two vertices is made perfect by one augmenting path.
 ghost use Rattle.std.specs.Prelude.{◌≡◌, ℕ, ◌+◌, ◌-◌, ◌/◌, ◌≢◌, ◌==◌, ◌&&◌, not, nat_lt, nat_le, cond, true, ◌<◌, ◌≤◌, length, slice_index, ◌↔◌, IfOk, Some, None};
-ghost use Rattle.counting.specs.Common.{Within, mem, Set, put};
+ghost use Rattle.graph_core.specs.from_counting.Common.{Within, mem, Set, put};
 ghost use Rattle.graph_core.specs.Common.{AreRows, graph_of, IsMatching, IsPerfect, HasPerfect, missed_count};
 ghost use Rattle.match_search.specs.Common.{flipped, marks, numbers, part, end_a, end_b, HasMates, IsGraphRow, NamesEdges, DiffersByPath, IsRepairRow, Misses, with_mate};
 ghost use Rattle.match_core.specs.Common.{IsOf, edges_of, NamesPerfect, StartsWalk};
 
 use crate::matching::{Matching, matching_of};
 use crate::mates::mates_off;
+use graph_core::vset_core::{MOST_VERTICES, VSet};
 use graph_core::{Ends, MultiGraph};
 use match_search::{enlarge, mark_place};
 use std::alloc::{AllocError as Memory, Global};
-use vset_core::{MOST_VERTICES, VSet};
 
 /// The edge of the matching at a vertex, and its other end.
 #[derive(Clone, Copy, Debug, PartialEq, Eq, Drop)]

@@ -1,7 +1,7 @@
 -- The active vertices of a forest that grows: what a step makes of them, and where none is left.
 -- Idea: a settled vertex beside an active one is outer, so the active one is not done as long as it
 -- is so.
-use Rattle.counting.proofs.Common.{◌≡◌, ◌≢◌, ℕ, Bool, true, false, ◌==◌, sym, ap, ◌∙◌, arith, not, ◌&&◌, ◌||◌, ne_eqb, inl, inr, subst, List, [], and_from, both_ways, cases_eq, or_cases, or_left, or_right, Set, mem}
+use Rattle.graph_core.proofs.from_counting.Common.{◌≡◌, ◌≢◌, ℕ, Bool, true, false, ◌==◌, sym, ap, ◌∙◌, arith, not, ◌&&◌, ◌||◌, ne_eqb, inl, inr, subst, List, [], and_from, both_ways, cases_eq, or_cases, or_left, or_right, Set, mem}
 use Rattle.graph_core.proofs.Common.{Graph}
 use Rattle.match_search.specs.Common.{AreNear, GrowsForest, HasBranched, IsDone, Touches, numbers}
 use Rattle.match_search.specs.declared.instance.Instance.{Instance}

@@ -1,6 +1,6 @@
 -- Paths, forests, matchings and cycles depend only on the values at their places. Each condition
 -- uses only places within range, so functions that agree there satisfy the same conditions.
-use Rattle.counting.proofs.Common.{◌≡◌, ℕ, suc, ◌+◌, ◌≤◌, ◌<◌, true, sym, ap, ◌∙◌, arith, subst, Within, Set}
+use Rattle.graph_core.proofs.from_counting.Common.{◌≡◌, ℕ, suc, ◌+◌, ◌≤◌, ◌<◌, true, sym, ap, ◌∙◌, arith, subst, Within, Set}
 use Rattle.graph_core.proofs.Common.{degree_congr, Graph, degree, first_end, second_end, size, IsMatching}
 use Rattle.match_search.proofs.LongerPaths.{ends_by}
 use Rattle.match_search.specs.Common.{IsOddCycle, IsAlternating, IsAlternatingForest}

@@ -1,7 +1,7 @@
 -- An even alternating path exchanged moves the missed vertex to its other end; two disjoint ones
 -- and an edge augment. By pairs of edges from the front: each pair moves the missed vertex by two
 -- places, and all other degrees stay.
-use Rattle.counting.proofs.Common.{◌≡◌, ℕ, suc, zero, ◌+◌, ◌*◌, ◌≤◌, ◌<◌, ◌≢◌, Bool, true, false, cond, ◌==◌, refl, sym, ap, ◌∙◌, arith, not, eq-eqb, ne_eqb, inl, inr, subst, cases_eq, both_ways, count_put, odd-double, Within, bit, count, Set, put}
+use Rattle.graph_core.proofs.from_counting.Common.{◌≡◌, ℕ, suc, zero, ◌+◌, ◌*◌, ◌≤◌, ◌<◌, ◌≢◌, Bool, true, false, cond, ◌==◌, refl, sym, ap, ◌∙◌, arith, not, eq-eqb, ne_eqb, inl, inr, subst, cases_eq, both_ways, count_put, odd-double, Within, bit, count, Set, put}
 use Rattle.graph_core.proofs.Common.{add_edge, degree_put, ends_of, ends_of_is, Graph, degree, size, HasEnds, IsMatching}
 use Rattle.match_search.proofs.OddCycles.{same_ends}
 use Rattle.match_search.specs.Common.{IsAlternating, IsPath, flipped}

@@ -1,6 +1,6 @@
 -- The blossom that an edge closes between an outer vertex and another one on its path: the latter
 -- is the base, and the others are the vertices after it.
-use Rattle.counting.proofs.Common.{◌≡◌, ℕ, zero, suc, ◌+◌, ◌≤◌, true, refl, sym, ap, ◌∙◌, arith, inl, inr, ◌||◌, ◌==◌, eq-eqb, eqb-true, List, [], ◌∷◌, cases_eq, or_cases, or_false, or_left, or_right, true≢false, Set, mem}
+use Rattle.graph_core.proofs.from_counting.Common.{◌≡◌, ℕ, zero, suc, ◌+◌, ◌≤◌, true, refl, sym, ap, ◌∙◌, arith, inl, inr, ◌||◌, ◌==◌, eq-eqb, eqb-true, List, [], ◌∷◌, cases_eq, or_cases, or_false, or_left, or_right, true≢false, Set, mem}
 use Rattle.graph_core.proofs.Common.{Graph, missed_count}
 use Rattle.match_search.specs.Common.{ClosesForest, HoldsFlower, IsLastIn, IsOuterOf}
 use Rattle.match_search.specs.declared.alternating.AlternatingForest.{AlternatingForest}

@@ -1,6 +1,6 @@
 -- What an augmentation by mates hands on: its matching is held again, with fewer exposed
 -- vertices; and where it ends, the marks of a matching with its mates and its frame are the best.
-use Rattle.counting.proofs.Common.{◌≡◌, ℕ, ◌+◌, ◌<◌, ◌==◌, ◌&&◌, not, nat_lt, nat_le, ap, ◌∙◌, arith, lt-ltb, List, length, rules, and_from, le-leb, count_congr, count, Within, mem, Set}
+use Rattle.graph_core.proofs.from_counting.Common.{◌≡◌, ℕ, ◌+◌, ◌<◌, ◌==◌, ◌&&◌, not, nat_lt, nat_le, ap, ◌∙◌, arith, lt-ltb, List, length, rules, and_from, le-leb, count_congr, count, Within, mem, Set}
 use Rattle.graph_core.proofs.Common.{Graph, IsGraph, size}
 use Rattle.match_search.specs.Common.{HoldsMatching, IsMateStep, IsInstance, HasMates, HasFrame, IsBest, marks, numbers, AreAlike}
 use Rattle.match_search.specs.declared.best.Best.{Best}

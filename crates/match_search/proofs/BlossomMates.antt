@@ -1,7 +1,7 @@
 -- A blossom is shrunk to its base: which matchings has the smaller graph, by mates, and what are
 -- they in the graph? Where the base is exposed, a matching misses the blossom; where it has a
 -- mate, the edge between them can be put at a vertex of the blossom that the mate touches.
-use Rattle.counting.proofs.Common.{◌≡◌, ◌≢◌, ℕ, suc, zero, ◌+◌, ◌*◌, ◌≤◌, ◌<◌, true, false, ◌==◌, refl, sym, ap, ◌∙◌, arith, eq-eqb, ne_eqb, eqb-true, inl, inr, not, ◌&&◌, ◌||◌, subst, List, fun_ext, cases_Bool, cases_eq, both_ways, not-true, false_from_ne_true, and_from, or_right, half, some_true, at_le_total, Within, bit, count, is_odd, Set, complement, minus, put, mem}
+use Rattle.graph_core.proofs.from_counting.Common.{◌≡◌, ◌≢◌, ℕ, suc, zero, ◌+◌, ◌*◌, ◌≤◌, ◌<◌, true, false, ◌==◌, refl, sym, ap, ◌∙◌, arith, eq-eqb, ne_eqb, eqb-true, inl, inr, not, ◌&&◌, ◌||◌, subst, List, fun_ext, cases_Bool, cases_eq, both_ways, not-true, false_from_ne_true, and_from, or_right, half, some_true, at_le_total, Within, bit, count, is_odd, Set, complement, minus, put, mem}
 use Rattle.graph_core.proofs.Common.{add_edge, ends_of_is, Graph, HasEnds, IsGraph, degree, size, with_ends, IsMatching}
 use Rattle.match_search.specs.Common.{IsNearPerfect, IsShrunk, shrunk_removed, HasMates, with_mate, with_pair, IsOddCycle, every_other, listed, picked, IsOpenedCycle, IsInstance, Touches, shrunk_ends}
 use Rattle.match_search.proofs.ClosingPairs.{cycle_missed, degree_elsewhere, mates_alike}

@@ -1,7 +1,7 @@
 -- Is the step of the graph with a blossom shrunk one of the graph, also by mates? The matching of
 -- the smaller graph leaves the blossom at its base or at a neighbour of some vertex of it; it is
 -- completed there.
-use Rattle.counting.proofs.Common.{◌≡◌, ◌≢◌, ℕ, ◌+◌, ◌≤◌, ◌<◌, ◌⊎◌, true, refl, sym, ap, ◌∙◌, arith, ◌||◌, inl, inr, subst, List, fun_ext, or_cases, count_le, Within, count, Set, complement, union, mem}
+use Rattle.graph_core.proofs.from_counting.Common.{◌≡◌, ◌≢◌, ℕ, ◌+◌, ◌≤◌, ◌<◌, ◌⊎◌, true, refl, sym, ap, ◌∙◌, arith, ◌||◌, inl, inr, subst, List, fun_ext, or_cases, count_le, Within, count, Set, complement, union, mem}
 use Rattle.graph_core.proofs.Common.{Graph, HasEnds, IsGraph, IsMatching, degree, size, with_ends}
 use Rattle.match_search.specs.Common.{Frame, shrunk_removed, HasMates, paired_round, with_mate, with_pair, IsOddCycle, every_other, listed, picked, IsOpenedCycle, IsWidened, StepAnswer, shrunk_ends}
 use Rattle.match_search.specs.declared.answer.Answer.{Answer}

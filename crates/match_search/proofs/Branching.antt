@@ -1,7 +1,7 @@
 -- Where the search branches: from an outer vertex it reaches one that is left, and neither outer
 -- nor inner. The rows have room for the branch, the forest holds again, and the search is one
 -- step nearer to its end.
-use Rattle.counting.proofs.Common.{◌≡◌, ◌≢◌, ℕ, ◌+◌, ◌-◌, ◌*◌, ◌<◌, true, false, ◌==◌, arith, not, ◌&&◌, ◌||◌, List, [], length, both_ways, false_from_ne_true, Within, count, Set, mem}
+use Rattle.graph_core.proofs.from_counting.Common.{◌≡◌, ◌≢◌, ℕ, ◌+◌, ◌-◌, ◌*◌, ◌<◌, true, false, ◌==◌, arith, not, ◌&&◌, ◌||◌, List, [], length, both_ways, false_from_ne_true, Within, count, Set, mem}
 use Rattle.graph_core.proofs.Common.{Graph}
 use Rattle.match_search.specs.Common.{HasBranched, HoldsAlternating, HoldsMatching, AreNear, Touches, numbers}
 use Rattle.match_search.specs.declared.instance.Instance.{Instance}

@@ -1,7 +1,7 @@
 -- An odd labelling of G - R - S with enough classes shows that no matching of G - R is larger.
 -- Each class has a vertex that the matching misses or an edge to S; summed over the classes and
 -- compared term by term.
-use Rattle.counting.proofs.Common.{◌≡◌, ℕ, suc, zero, ◌+◌, ◌*◌, ◌≤◌, Bool, true, false, ◌==◌, refl, sym, ap, ap₂, ◌∙◌, arith, ◌&&◌, ◌||◌, not, eq-eqb, ne_eqb, eqb-true, inl, inr, nat_lt, mul-add, lt-ltb, cases_eq, both_ways, false_from_ne_true, or_from, count_le_one, odd-double, total_add, total_at, total_congr, total_le, total_none, total_swap, total_tight, total_ones, Within, bit, count, is_odd, total, Set, complement, union}
+use Rattle.graph_core.proofs.from_counting.Common.{◌≡◌, ℕ, suc, zero, ◌+◌, ◌*◌, ◌≤◌, Bool, true, false, ◌==◌, refl, sym, ap, ap₂, ◌∙◌, arith, ◌&&◌, ◌||◌, not, eq-eqb, ne_eqb, eqb-true, inl, inr, nat_lt, mul-add, lt-ltb, cases_eq, both_ways, false_from_ne_true, or_from, count_le_one, odd-double, total_add, total_at, total_congr, total_le, total_none, total_swap, total_tight, total_ones, Within, bit, count, is_odd, total, Set, complement, union}
 use Rattle.graph_core.proofs.Common.{ends_le_degree, ends_of, ends_of_is, missed_edges, degrees, ends_in, Graph, IsGraph, degree, first_end, in_cut, inside, second_end, size, IsMatching, missed_count}
 use Rattle.match_search.specs.Common.{IsOddLabelling}
 

@@ -1,6 +1,6 @@
 -- The cycle of a blossom, as the code reads it off two closing paths, with its members and with the
 -- mates that are left. What is proved of the places on the paths is so said of the cycle.
-use Rattle.counting.proofs.Common.{◌≡◌, ◌≢◌, ℕ, suc, ◌+◌, ◌-◌, ◌/◌, ◌≤◌, ◌<◌, ap, ◌∙◌, arith, subst, length, List, fun_ext, Within, Set, mem}
+use Rattle.graph_core.proofs.from_counting.Common.{◌≡◌, ◌≢◌, ℕ, suc, ◌+◌, ◌-◌, ◌/◌, ◌≤◌, ◌<◌, ap, ◌∙◌, arith, subst, length, List, fun_ext, Within, Set, mem}
 use Rattle.graph_core.proofs.Common.{Graph}
 use Rattle.match_search.specs.Common.{AreClosingPaths, ExposesOnly, HoldsBlossom, second_start, cleared_mates, flipped_mates, IsLastMeeting, listed, numbers, part}
 use Rattle.match_search.specs.declared.blossom.Blossom.{Blossom}

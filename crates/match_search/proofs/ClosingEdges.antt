@@ -1,7 +1,7 @@
 -- An edge between two outer vertices whose paths meet closes an odd cycle that begins at a vertex
 -- which can be missed. The paths meet last at an outer vertex; from there along one path, over
 -- the edge and back along the other.
-use Rattle.counting.proofs.Common.{◌≡◌, ℕ, suc, zero, ◌+◌, ◌-◌, ◌≤◌, ◌<◌, ◌≢◌, Bool, true, false, cond, ◌==◌, refl, sym, ap, ap₂, ◌∙◌, arith, ◌&&◌, ◌||◌, not, eq-eqb, ne_eqb, eqb-true, ◌⊎◌, inl, inr, subst, nat_lt, nat_le, le-ltb, rules, not_not, cases_eq, cases_Bool, cases_lt, cases_order, both_ways, true≢false, and_parts, le-leb, lt-leb, odd-add, odd-double, some_true, Within, count, is_odd, Set}
+use Rattle.graph_core.proofs.from_counting.Common.{◌≡◌, ℕ, suc, zero, ◌+◌, ◌-◌, ◌≤◌, ◌<◌, ◌≢◌, Bool, true, false, cond, ◌==◌, refl, sym, ap, ap₂, ◌∙◌, arith, ◌&&◌, ◌||◌, not, eq-eqb, ne_eqb, eqb-true, ◌⊎◌, inl, inr, subst, nat_lt, nat_le, le-ltb, rules, not_not, cases_eq, cases_Bool, cases_lt, cases_order, both_ways, true≢false, and_parts, le-leb, lt-leb, odd-add, odd-double, some_true, Within, count, is_odd, Set}
 use Rattle.graph_core.proofs.Common.{Graph, degree, size, HasEnds, IsMatching}
 use Rattle.match_search.proofs.OddCycles.{next_in, same_ends}
 use Rattle.match_search.proofs.LongerPaths.{ends_by}

@@ -1,7 +1,7 @@
 -- Two closing paths by mates: where they do not meet, the exchanged pairs and the pair of their
 -- last vertices are a matching with one more edge; where they meet, the mates without the blossom
 -- are those of the opened matching.
-use Rattle.counting.proofs.Common.{◌≡◌, ◌≢◌, ℕ, suc, ◌+◌, ◌-◌, ◌/◌, ◌≤◌, ◌<◌, true, false, cond, ◌==◌, refl, sym, ap, ◌∙◌, arith, ne_eqb, inl, inr, subst, length, List, ◌&&◌, not, fun_ext, cases_Bool, cases_eq, both_ways, false_from_ne_true, half, Within, bit, count, Set, minus, put, mem}
+use Rattle.graph_core.proofs.from_counting.Common.{◌≡◌, ◌≢◌, ℕ, suc, ◌+◌, ◌-◌, ◌/◌, ◌≤◌, ◌<◌, true, false, cond, ◌==◌, refl, sym, ap, ◌∙◌, arith, ne_eqb, inl, inr, subst, length, List, ◌&&◌, not, fun_ext, cases_Bool, cases_eq, both_ways, false_from_ne_true, half, Within, bit, count, Set, minus, put, mem}
 use Rattle.graph_core.proofs.Common.{degree_put, ends_of_is, Graph, HasEnds, degree, size, IsMatching}
 use Rattle.match_search.specs.Common.{AreClosingPaths, ExposesOnly, HoldsBlossom, IsAugmented, second_start, IsAlternating, flipped, IsNearPerfect, HasMates, with_pair, flipped_mates, cleared_mates, IsOddCycle, every_other, listed, picked, numbers, part, IsOpenedCycle}
 use Rattle.match_search.specs.declared.blossom.Blossom.{Blossom}

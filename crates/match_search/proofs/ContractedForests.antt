@@ -1,7 +1,7 @@
 -- A forest goes on after a blossom: where a set of vertices of the forest is shrunk to its base,
 -- the forest becomes one of the shrunk graph. Its vertices are the old ones outside the set, and
 -- the base, which is outer; what was a child of a vertex of the set is a child of the base.
-use Rattle.counting.proofs.Common.{◌≡◌, ◌≢◌, ℕ, suc, ◌+◌, ◌-◌, ◌≤◌, ◌<◌, true, false, cond, ◌==◌, refl, sym, ap, ◌∙◌, arith, not, ◌&&◌, ◌||◌, eq-eqb, eqb-true, ne_eqb, inl, inr, and_from, and_parts, and_true, both_ways, cases_Bool, not-true, or_cases, or_false, or_right, true≢false, Within, is_odd, Set}
+use Rattle.graph_core.proofs.from_counting.Common.{◌≡◌, ◌≢◌, ℕ, suc, ◌+◌, ◌-◌, ◌≤◌, ◌<◌, true, false, cond, ◌==◌, refl, sym, ap, ◌∙◌, arith, not, ◌&&◌, ◌||◌, eq-eqb, eqb-true, ne_eqb, inl, inr, and_from, and_parts, and_true, both_ways, cases_Bool, not-true, or_cases, or_false, or_right, true≢false, Within, is_odd, Set}
 use Rattle.graph_core.proofs.Common.{HasEnds, degree, first_end, second_end, size}
 use Rattle.match_search.specs.Common.{IsAlternatingForest, shrunk_vertex}
 use Rattle.match_search.proofs.ContractedPaths.{new_last, new_path, place_fits, stays_at}

@@ -1,7 +1,7 @@
 -- A frame of the graph in which a blossom of a forest is shrunk is one of the graph, with the
 -- blossom among the outer vertices. Idea: the base is an outer vertex of the forest in the shrunk
 -- graph, so a matching of the same size misses it.
-use Rattle.counting.proofs.Common.{◌≡◌, ◌≢◌, ℕ, suc, ◌+◌, ◌-◌, ◌≤◌, Bool, true, false, ◌==◌, refl, sym, ap, ap₂, ◌∙◌, arith, not, ◌&&◌, ◌||◌, eq-eqb, ne_eqb, inl, inr, subst, and_false, and_from, both_ways, cases_Bool, cases_eq, count_congr, fun_ext, or_right, Within, bit, count, Set, none, union}
+use Rattle.graph_core.proofs.from_counting.Common.{◌≡◌, ◌≢◌, ℕ, suc, ◌+◌, ◌-◌, ◌≤◌, Bool, true, false, ◌==◌, refl, sym, ap, ap₂, ◌∙◌, arith, not, ◌&&◌, ◌||◌, eq-eqb, ne_eqb, inl, inr, subst, and_false, and_from, both_ways, cases_Bool, cases_eq, count_congr, fun_ext, or_right, Within, bit, count, Set, none, union}
 use Rattle.graph_core.proofs.Common.{IsMatching, degree, missed_count, size}
 use Rattle.match_search.specs.Common.{Frame, IsAlternating, IsAlternatingForest, IsNearPerfect, flipped}
 use Rattle.match_search.proofs.AlternatingPaths.{flipped_count, flipped_end, flipped_matching}

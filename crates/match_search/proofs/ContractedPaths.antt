@@ -1,7 +1,7 @@
 -- The paths of a forest in the shrunk graph: where a set of its vertices is shrunk to its base, the
 -- path of an outer vertex leaves out the places between the base and the last one in the set. So
 -- each of its vertices is outside the set or is the base, where the degrees are what they were.
-use Rattle.counting.proofs.Common.{◌≡◌, ◌≢◌, ℕ, suc, ◌+◌, ◌-◌, ◌≤◌, ◌<◌, ◌⊎◌, true, false, cond, refl, sym, ap, ◌∙◌, arith, not, ◌&&◌, inl, inr, and_true, both_ways, cases_eq, cases_lt}
+use Rattle.graph_core.proofs.from_counting.Common.{◌≡◌, ◌≢◌, ℕ, suc, ◌+◌, ◌-◌, ◌≤◌, ◌<◌, ◌⊎◌, true, false, cond, refl, sym, ap, ◌∙◌, arith, not, ◌&&◌, inl, inr, and_true, both_ways, cases_eq, cases_lt}
 use Rattle.graph_core.proofs.Common.{HasEnds, degree}
 use Rattle.match_search.specs.Common.{IsAlternating, shrunk_vertex}
 use Rattle.match_search.proofs.CrossingPaths.{Way}

@@ -1,6 +1,6 @@
 -- The path of an outer vertex to a set that can be shrunk: it avoids the set, or comes to it at the
 -- base and leaves it for good some pairs later. By induction along the path up.
-use Rattle.counting.proofs.Common.{◌≡◌, ◌≢◌, ℕ, zero, suc, ◌+◌, ◌-◌, ◌≤◌, ◌<◌, ◌⊎◌, true, false, refl, sym, ap, ◌∙◌, arith, not, inl, inr, subst, both_ways, cases_Bool, cases_eq, cases_lt, false_from_ne_true, odd-double, Within, Set}
+use Rattle.graph_core.proofs.from_counting.Common.{◌≡◌, ◌≢◌, ℕ, zero, suc, ◌+◌, ◌-◌, ◌≤◌, ◌<◌, ◌⊎◌, true, false, refl, sym, ap, ◌∙◌, arith, not, inl, inr, subst, both_ways, cases_Bool, cases_eq, cases_lt, false_from_ne_true, odd-double, Within, Set}
 use Rattle.match_search.proofs.MatePairs.{mate_back}
 use Rattle.match_search.proofs.ShrunkForests.{ShrunkForest, WalksUp}
 

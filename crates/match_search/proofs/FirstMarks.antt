@@ -1,6 +1,6 @@
 -- The marks that the engine begins with, and the bound on its augmentations. An edge between two
 -- free vertices is added: it meets these two alone, so all other free vertices stay free.
-use Rattle.counting.proofs.Common.{◌≡◌, ℕ, ◌+◌, ◌≢◌, Bool, true, false, ◌==◌, ◌||◌, ◌&&◌, not, ap, ap₂, arith, both_ways, or_left, or_right, false_from_ne_true, total_none, Within, bit, Set, put}
+use Rattle.graph_core.proofs.from_counting.Common.{◌≡◌, ℕ, ◌+◌, ◌≢◌, Bool, true, false, ◌==◌, ◌||◌, ◌&&◌, not, ap, ap₂, arith, both_ways, or_left, or_right, false_from_ne_true, total_none, Within, bit, Set, put}
 use Rattle.graph_core.proofs.Common.{add_edge, degree_put, ends_of_is, Graph, HasEnds, degree, first_end, second_end, size, IsMatching}
 
 -- no edge at all

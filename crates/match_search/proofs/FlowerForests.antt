@@ -1,7 +1,7 @@
 -- The blossom that two paths of a forest close can be shrunk to its base: the path of each outer
 -- vertex of it is the beginning of one of the two, and an edge of the matching at a vertex after
 -- the base leads one place on or back.
-use Rattle.counting.proofs.Common.{◌≡◌, ◌≢◌, ℕ, zero, suc, ◌+◌, ◌-◌, ◌≤◌, ◌<◌, ◌⊎◌, true, false, refl, sym, ap, ◌∙◌, arith, not, inl, inr, subst, both_ways, cases_Bool, cases_eq, false_from_ne_true, not-false, odd-double, Within, is_odd, Set}
+use Rattle.graph_core.proofs.from_counting.Common.{◌≡◌, ◌≢◌, ℕ, zero, suc, ◌+◌, ◌-◌, ◌≤◌, ◌<◌, ◌⊎◌, true, false, refl, sym, ap, ◌∙◌, arith, not, inl, inr, subst, both_ways, cases_Bool, cases_eq, false_from_ne_true, not-false, odd-double, Within, is_odd, Set}
 use Rattle.graph_core.proofs.Common.{edge_at, Graph, HasEnds, IsGraph, first_end, second_end, size}
 use Rattle.match_search.specs.Common.{HasMates, IsNearPerfect, IsOddCycle, every_other, flipped, listed, picked, IsContractible, IsFlower}
 use Rattle.match_search.proofs.AlternatingPaths.{flipped_off}

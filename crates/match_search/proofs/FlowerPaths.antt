@@ -1,6 +1,6 @@
 -- Walks up a forest: what a walk has met is the end of the path. An outer vertex on a path has its
 -- own path as the beginning of it.
-use Rattle.counting.proofs.Common.{◌≡◌, ◌≢◌, ◌↔◌, ℕ, zero, suc, ◌+◌, ◌≤◌, true, false, refl, sym, ap, ◌∙◌, arith, inl, inr, not, ◌||◌, ◌==◌, subst, List, both_ways, cases_eq, odd-double, is_odd, Set, mem}
+use Rattle.graph_core.proofs.from_counting.Common.{◌≡◌, ◌≢◌, ◌↔◌, ℕ, zero, suc, ◌+◌, ◌≤◌, true, false, refl, sym, ap, ◌∙◌, arith, inl, inr, not, ◌||◌, ◌==◌, subst, List, both_ways, cases_eq, odd-double, is_odd, Set, mem}
 use Rattle.graph_core.proofs.Common.{Graph}
 use Rattle.match_search.specs.Common.{HoldsAlternating, HoldsForest, GoesOver, IsBeyond, IsLastIn, numbers}
 use Rattle.match_search.specs.declared.alternating.AlternatingForest.{AlternatingForest}

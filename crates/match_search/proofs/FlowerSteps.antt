@@ -1,6 +1,6 @@
 -- The blossom of a forest is shrunk to its base: what the search hands on, and what comes back. The
 -- shrunk graph has fewer vertices, and its frame is one of the graph.
-use Rattle.counting.proofs.Common.{◌≡◌, ℕ, zero, suc, ◌+◌, ◌≤◌, ◌<◌, true, false, ◌==◌, ◌∙◌, arith, sym, subst, eqb-true, fun_ext, half, not-true, some_true, Within, count, is_odd, Set, complement, none, union}
+use Rattle.graph_core.proofs.from_counting.Common.{◌≡◌, ℕ, zero, suc, ◌+◌, ◌≤◌, ◌<◌, true, false, ◌==◌, ◌∙◌, arith, sym, subst, eqb-true, fun_ext, half, not-true, some_true, Within, count, is_odd, Set, complement, none, union}
 use Rattle.graph_core.proofs.Common.{missed_count, size}
 use Rattle.match_search.specs.Common.{Frame, HasMates, IsNearPerfect, every_other, listed, picked, IsFlower}
 use Rattle.match_search.proofs.ContractedForests.{contracted_forest}

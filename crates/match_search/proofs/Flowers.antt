@@ -1,7 +1,7 @@
 -- A matching that misses one vertex: its exposed vertex is the root. A blossom of its forest is
 -- shrunk: the forest grows on in the shrunk graph, and the frame of this graph is one of the graph,
 -- with the blossom among the outer vertices.
-use Rattle.counting.proofs.Common.{◌≡◌, ◌≢◌, ℕ, suc, ◌<◌, Bool, true, false, sym, ap, ap₂, ◌∙◌, arith, inl, inr, not, cond, ◌&&◌, ◌||◌, ◌==◌, refl, subst, eq-eqb, eqb-true, ne_eqb, List, [], ◌∷◌, length, Option, None, fun_ext, and_from, and_parts, count_congr, count_of_one, cases_eq, false_from_ne_true, not-true, or_cases, or_left, or_right, only_one, or_false, true≢false, Within, count, Set, mem, none}
+use Rattle.graph_core.proofs.from_counting.Common.{◌≡◌, ◌≢◌, ℕ, suc, ◌<◌, Bool, true, false, sym, ap, ap₂, ◌∙◌, arith, inl, inr, not, cond, ◌&&◌, ◌||◌, ◌==◌, refl, subst, eq-eqb, eqb-true, ne_eqb, List, [], ◌∷◌, length, Option, None, fun_ext, and_from, and_parts, count_congr, count_of_one, cases_eq, false_from_ne_true, not-true, or_cases, or_left, or_right, only_one, or_false, true≢false, Within, count, Set, mem, none}
 use Rattle.graph_core.proofs.Common.{Graph, degree, size, missed_count}
 use Rattle.match_search.specs.Common.{AreExposed, GrowsForest, HasContracted, HasMates, HasRestarted, HoldsAlternating, HoldsForest, HoldsMatching, IsGrownForest, IsInstance, IsSettledVertex, HasOuter, HoldsFlower, HoldsRooted, Frame, IsMissableRow, Touches, numbers, IsShrinking, every_other, picked, shrunk_ends}
 use Rattle.match_search.specs.declared.flower.Flower.{Flower}

@@ -1,6 +1,6 @@
 -- The paths to the two ends of a closing edge: they are paths of the forest, with outer and inner
 -- vertices in turn.
-use Rattle.counting.proofs.Common.{◌≡◌, ℕ, suc, ◌+◌, ◌≤◌, ◌<◌, true, refl, sym, ap, ◌∙◌, arith, subst, length, List, is_odd, Set, mem}
+use Rattle.graph_core.proofs.from_counting.Common.{◌≡◌, ℕ, suc, ◌+◌, ◌≤◌, ◌<◌, true, refl, sym, ap, ◌∙◌, arith, subst, length, List, is_odd, Set, mem}
 use Rattle.graph_core.proofs.Common.{Graph}
 use Rattle.match_search.specs.Common.{AreClosingPaths, ClosesForest, second_start, IsAlternating, part}
 use Rattle.match_search.specs.declared.alternating.AlternatingForest.{AlternatingForest}

@@ -1,7 +1,7 @@
 -- A forest grows by a vertex outside it that an edge joins to an outer one, and by the mate of
 -- this vertex. The new path is that of the outer vertex with two more edges; every other part of
 -- the forest stays.
-use Rattle.counting.proofs.Common.{◌≡◌, ℕ, suc, ◌+◌, ◌≤◌, ◌≢◌, Bool, true, false, cond, ◌==◌, refl, sym, ap, ◌∙◌, arith, not, eq-eqb, inl, inr, subst, cases_eq, both_ways, false_from_ne_true, count_put, odd-double, Within, bit, count, is_odd, Set, put}
+use Rattle.graph_core.proofs.from_counting.Common.{◌≡◌, ℕ, suc, ◌+◌, ◌≤◌, ◌≢◌, Bool, true, false, cond, ◌==◌, refl, sym, ap, ◌∙◌, arith, not, eq-eqb, inl, inr, subst, cases_eq, both_ways, false_from_ne_true, count_put, odd-double, Within, bit, count, is_odd, Set, put}
 use Rattle.graph_core.proofs.Common.{edge_at, ends_le_degree, ends_of_is, bit_same, Graph, IsGraph, degree, first_end, second_end, size, HasEnds, IsMatching}
 use Rattle.match_search.proofs.LongerPaths.{end_within, ends_by, spots, extended, longer}
 use Rattle.match_search.proofs.Forests.{mates_of, met, one_edge, outer_edge, turned}

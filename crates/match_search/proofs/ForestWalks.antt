@@ -1,7 +1,7 @@
 -- One step of a walk up a forest, as the loops take it: from an outer vertex over its mate to the
 -- parent of the mate. Idea: a root is an outer vertex without a mate, so the walk knows where to
 -- stop, and it takes as many steps as the path has pairs of edges.
-use Rattle.counting.proofs.Common.{◌≡◌, ◌≢◌, ℕ, zero, suc, ◌+◌, ◌≤◌, ◌<◌, true, false, cond, ◌==◌, sym, ap, ◌∙◌, arith, inl, inr, eq-eqb, ne_eqb, length, List, get_or, both_ways, cases_eq, cases_lt, get_or_default_zero, Within, Set, mem}
+use Rattle.graph_core.proofs.from_counting.Common.{◌≡◌, ◌≢◌, ℕ, zero, suc, ◌+◌, ◌≤◌, ◌<◌, true, false, cond, ◌==◌, sym, ap, ◌∙◌, arith, inl, inr, eq-eqb, ne_eqb, length, List, get_or, both_ways, cases_eq, cases_lt, get_or_default_zero, Within, Set, mem}
 use Rattle.graph_core.proofs.Common.{Graph, degree}
 use Rattle.match_search.specs.Common.{ClosesForest, HoldsForest, IsLastIn, MeetsSet, numbers}
 use Rattle.match_search.specs.declared.alternating.AlternatingForest.{AlternatingForest}

@@ -1,7 +1,7 @@
 -- Alternating forests: the first one, how many outer vertices there are, and the frame of a
 -- forest that is closed. Outer and covered inner vertices are paired by the matching; in a closed
 -- forest each outer vertex is a class by itself.
-use Rattle.counting.proofs.Common.{◌≡◌, ℕ, suc, zero, ◌+◌, ◌*◌, ◌≤◌, ◌≢◌, Bool, true, false, cond, ◌==◌, refl, sym, ap, ◌∙◌, arith, ◌&&◌, not, eq-eqb, inl, inr, nat_lt, nat_le, lt-ltb, le-ltb, cases_eq, and_from, both_ways, true≢false, false_from_ne_true, le-leb, lt-leb, at_le_total, total_add, total_congr, Within, bit, count, is_odd, total, Set, none, union}
+use Rattle.graph_core.proofs.from_counting.Common.{◌≡◌, ℕ, suc, zero, ◌+◌, ◌*◌, ◌≤◌, ◌≢◌, Bool, true, false, cond, ◌==◌, refl, sym, ap, ◌∙◌, arith, ◌&&◌, not, eq-eqb, inl, inr, nat_lt, nat_le, lt-ltb, le-ltb, cases_eq, and_from, both_ways, true≢false, false_from_ne_true, le-leb, lt-leb, at_le_total, total_add, total_congr, Within, bit, count, is_odd, total, Set, none, union}
 use Rattle.graph_core.proofs.Common.{bit_same, ends_le_degree, ends_of_is, missed_edges, two_ends_le_degree, Graph, IsGraph, degree, first_end, second_end, size, HasEnds, IsMatching, missed_count}
 use Rattle.match_search.proofs.Certificates.{ends_total}
 use Rattle.match_search.proofs.AlternatingPaths.{flipped_count, flipped_end, flipped_matching}

@@ -1,7 +1,7 @@
 -- Perfect matchings through given edges: edges that share no vertex, with a perfect matching of
 -- the graph without their ends. Degrees add where the sets of edges have none in common, and the
 -- two meet each vertex in turn.
-use Rattle.counting.proofs.Common.{◌≡◌, ℕ, suc, zero, ◌+◌, ◌≤◌, ◌<◌, ◌≢◌, Bool, true, false, ◌==◌, ◌||◌, ◌&&◌, not, refl, sym, ap, ◌∙◌, arith, inl, inr, eq-eqb, eqb-true, List, [], ◌∷◌, length, take, get_or, subst, All, both_ways, cases_Bool, or_left, or_right, true≢false, take_more, take_all, mem-append, or_false, Within, bit, Set, none, put, union, minus, mem}
+use Rattle.graph_core.proofs.from_counting.Common.{◌≡◌, ℕ, suc, zero, ◌+◌, ◌≤◌, ◌<◌, ◌≢◌, Bool, true, false, ◌==◌, ◌||◌, ◌&&◌, not, refl, sym, ap, ◌∙◌, arith, inl, inr, eq-eqb, eqb-true, List, [], ◌∷◌, length, take, get_or, subst, All, both_ways, cases_Bool, or_left, or_right, true≢false, take_more, take_all, mem-append, or_false, Within, bit, Set, none, put, union, minus, mem}
 use Rattle.graph_core.proofs.Common.{degree_put, edge_at, ends_le_degree, ends_of, ends_of_is, two_ends_le_degree, bit_same, Graph, HasEnds, IsGraph, degree, size, first_end, second_end, IsMatching, IsPerfect}
 use Rattle.match_search.specs.Common.{MeetOnce}
 use Rattle.match_search.proofs.Forests.{met as met_ends}

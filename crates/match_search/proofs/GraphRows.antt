@@ -1,6 +1,6 @@
 -- What a row of ends says of the graph of these ends, and a row of edges of its vertices.
 -- Each fact about the ends at a place is carried to the edge one place on.
-use Rattle.counting.proofs.Common.{◌≡◌, ℕ, suc, ◌+◌, ◌-◌, ◌<◌, ◌≤◌, ◌≢◌, true, cond, ◌==◌, sym, ap, ◌∙◌, arith, List, length, eq-eqb, ne_eqb, inl, inr, cases_eq, get_or-map, length-map, total_none, Within, Set}
+use Rattle.graph_core.proofs.from_counting.Common.{◌≡◌, ℕ, suc, ◌+◌, ◌-◌, ◌<◌, ◌≤◌, ◌≢◌, true, cond, ◌==◌, sym, ap, ◌∙◌, arith, List, length, eq-eqb, ne_eqb, inl, inr, cases_eq, get_or-map, length-map, total_none, Within, Set}
 use Rattle.graph_core.proofs.Common.{HasEnds, Graph, size, first_end, second_end, IsGraph, degree, graph_of}
 use Rattle.match_search.proofs.Forests.{met}
 use Rattle.match_search.specs.Common.{numbers, end_a, end_b, AreEnds, NamesEdges}

@@ -1,6 +1,6 @@
 -- The mates that the search begins with, and the frame of a perfect matching. An edge between two
 -- free vertices makes them a pair; where no vertex is exposed, the frame is empty.
-use Rattle.counting.proofs.Common.{◌≡◌, ◌≢◌, ℕ, zero, suc, replicate, ◌≤◌, length, ◌∷◌, true, false, refl, ap, ◌∙◌, arith, inl, inr, ne_eqb, List, ◌||◌, ◌&&◌, ◌==◌, not, [], both_ways, cases_Bool, cases_eq, total_none, Within, bit, Set, none, put, mem}
+use Rattle.graph_core.proofs.from_counting.Common.{◌≡◌, ◌≢◌, ℕ, zero, suc, replicate, ◌≤◌, length, ◌∷◌, true, false, refl, ap, ◌∙◌, arith, inl, inr, ne_eqb, List, ◌||◌, ◌&&◌, ◌==◌, not, [], both_ways, cases_Bool, cases_eq, total_none, Within, bit, Set, none, put, mem}
 use Rattle.graph_core.proofs.Common.{missed_edges, Graph, HasEnds, IsGraph, degree, size, missed_count}
 use Rattle.match_search.specs.Common.{HasFrame, HasMates, numbers, with_pair}
 use Rattle.match_search.specs.declared.answer.FinalSets.{FinalSets}

@@ -1,6 +1,6 @@
 -- What an instance says about its graph, and the instance of a whole graph. A vertex that is left
 -- is near where its row contains it, or where it is a blossom with a member in the row.
-use Rattle.counting.proofs.Common.{◌≡◌, ◌≢◌, ◌↔◌, ℕ, ◌≤◌, true, false, refl, sym, ap, ◌∙◌, arith, eq-eqb, inl, inr, ◌⊎◌, not, ◌&&◌, ◌||◌, nat_lt, nat_le, lt-ltb, length, List, [], ◌∷◌, and_from, and_parts, cases_Bool, le-leb, true≢false, true_some, Within, Set, none, mem, item}
+use Rattle.graph_core.proofs.from_counting.Common.{◌≡◌, ◌≢◌, ◌↔◌, ℕ, ◌≤◌, true, false, refl, sym, ap, ◌∙◌, arith, eq-eqb, inl, inr, ◌⊎◌, not, ◌&&◌, ◌||◌, nat_lt, nat_le, lt-ltb, length, List, [], ◌∷◌, and_from, and_parts, cases_Bool, le-leb, true≢false, true_some, Within, Set, none, mem, item}
 use Rattle.graph_core.proofs.Common.{has_ends-from, adjacent-edge, has_ends-cases, Graph, HasEnds, IsGraph, has_ends, size, AreRows}
 use Rattle.match_search.specs.Common.{AreNear, IsInstance, Touches, AreAlike, IsPutBack, IsShrinking, IsUnshrunk}
 use Rattle.match_search.specs.declared.instance.Instance.{Instance}

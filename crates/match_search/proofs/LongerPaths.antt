@@ -1,6 +1,6 @@
 -- An alternating path with two more edges is an alternating path.
 -- Each place of the longer path is a place of the old one, or one of the two new vertices.
-use Rattle.counting.proofs.Common.{nat_lt, ◌≡◌, ℕ, suc, ◌+◌, ◌≤◌, ◌<◌, ◌≢◌, true, false, cond, ◌==◌, sym, ap, ◌∙◌, arith, eq-eqb, ne_eqb, ◌⊎◌, inl, inr, subst, lt-ltb, le-ltb, odd-double, Within, Set}
+use Rattle.graph_core.proofs.from_counting.Common.{nat_lt, ◌≡◌, ℕ, suc, ◌+◌, ◌≤◌, ◌<◌, ◌≢◌, true, false, cond, ◌==◌, sym, ap, ◌∙◌, arith, eq-eqb, ne_eqb, ◌⊎◌, inl, inr, subst, lt-ltb, le-ltb, odd-double, Within, Set}
 use Rattle.graph_core.proofs.Common.{Graph, IsGraph, degree, size, HasEnds}
 use Rattle.match_search.specs.Common.{IsAlternating}
 

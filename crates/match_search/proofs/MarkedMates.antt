@@ -1,7 +1,7 @@
 -- The least edges of the pairs of mates are a matching with these mates. Each pair has an edge,
 -- so one of its ends is seen in the end; a marked edge joins mates, and the mate of a mate is the
 -- vertex itself, so that edge is the one of the pair.
-use Rattle.counting.proofs.Common.{◌≡◌, ◌≢◌, ℕ, suc, ◌==◌, ◌||◌, ◌⊎◌, true, false, refl, sym, ap, ◌∙◌, arith, inl, inr, subst, eq-eqb, both_ways, cases_eq, cases_Bool, or_left, or_right, Within, Set, none, put}
+use Rattle.graph_core.proofs.from_counting.Common.{◌≡◌, ◌≢◌, ℕ, suc, ◌==◌, ◌||◌, ◌⊎◌, true, false, refl, sym, ap, ◌∙◌, arith, inl, inr, subst, eq-eqb, both_ways, cases_eq, cases_Bool, or_left, or_right, Within, Set, none, put}
 use Rattle.graph_core.proofs.Common.{bit_same, ends_le_degree, ends_of_is, Graph, HasEnds, IsGraph, degree, first_end, second_end, size, IsMatching}
 use Rattle.match_search.specs.Common.{HasMates, JoinsMates, MarksMates}
 use Rattle.match_search.proofs.AlternatingPaths.{put_at}

@@ -1,7 +1,7 @@
 -- Matchings by mates: mates are mates of each other, and a path exchanged by mates is the path
 -- exchanged by edges. Two edges of a matching at one vertex are one edge, so the mate of a mate
 -- is the vertex itself.
-use Rattle.counting.proofs.Common.{◌≡◌, ◌≢◌, ℕ, zero, suc, ◌+◌, ◌≤◌, true, false, cond, sym, ap, ◌∙◌, arith, eq-eqb, ne_eqb, inl, inr, subst, ◌⊎◌, rules, cases_eq, Within, bit, Set, put}
+use Rattle.graph_core.proofs.from_counting.Common.{◌≡◌, ◌≢◌, ℕ, zero, suc, ◌+◌, ◌≤◌, true, false, cond, sym, ap, ◌∙◌, arith, eq-eqb, ne_eqb, inl, inr, subst, ◌⊎◌, rules, cases_eq, Within, bit, Set, put}
 use Rattle.graph_core.proofs.Common.{Graph, IsGraph, HasEnds, degree, size, IsMatching}
 use Rattle.match_search.specs.Common.{IsAlternating, flipped, HasMates, with_mate, with_pair, flipped_mates}
 use Rattle.match_search.proofs.AlternatingPaths.{put_at, put_off, path_edges, flipped_degree, flipped_matching, flipped_end}

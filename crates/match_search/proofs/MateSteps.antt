@@ -1,6 +1,6 @@
 -- One augmentation by mates: the facts that its parts pass to one another. Idea: each is read off
 -- the relation that the one part ensures, in the form that the next requires.
-use Rattle.counting.proofs.Common.{◌≡◌, ℕ, ◌<◌, ◌∙◌, arith, subst₂, length, List, get_or, nat_lt, nat_le, lt-ltb, Option, Some, None, true, ◌==◌, ◌||◌, ◌⊎◌, eq-eqb, fun_ext, and_from, le-leb, total_congr, get_or_default_zero, Within, count, Set, complement, mem}
+use Rattle.graph_core.proofs.from_counting.Common.{◌≡◌, ℕ, ◌<◌, ◌∙◌, arith, subst₂, length, List, get_or, nat_lt, nat_le, lt-ltb, Option, Some, None, true, ◌==◌, ◌||◌, ◌⊎◌, eq-eqb, fun_ext, and_from, le-leb, total_congr, get_or_default_zero, Within, count, Set, complement, mem}
 use Rattle.graph_core.proofs.Common.{Graph}
 use Rattle.match_search.specs.Common.{AreExposed, HoldsMatching, IsGrownForest, IsOpenedCycle, HasMates, MayBeExposed, ClosesForest, HoldsBlossom, IsCompleted, IsMateStep, MayOpen, blossom_length, removed_with, without_blossom, IsInstance, listed, numbers, AreAlike, IsShrinking, IsWidened}
 use Rattle.match_search.specs.declared.blossom.Blossom.{Blossom}

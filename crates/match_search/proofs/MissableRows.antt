@@ -1,6 +1,6 @@
 -- A vertex taken out of a graph with a matching. Its edge of the matching goes, so its mate is
 -- exposed, and nothing else of the matching changes; of the instance the vertex alone goes.
-use Rattle.counting.proofs.Common.{◌≡◌, ◌≢◌, ℕ, suc, ◌-◌, ◌<◌, ◌≤◌, ◌==◌, ◌&&◌, ◌||◌, not, Bool, true, false, refl, sym, ap, ◌∙◌, arith, eqb-true, nat_lt, nat_le, inl, inr, subst, List, [], length, take, drop, ◌++◌, rules, take-append_seam, and_parts, and_from, cases_eq, or_cases, total_congr, Within, bit, count, mem, Set, meet, singleton, union}
+use Rattle.graph_core.proofs.from_counting.Common.{◌≡◌, ◌≢◌, ℕ, suc, ◌-◌, ◌<◌, ◌≤◌, ◌==◌, ◌&&◌, ◌||◌, not, Bool, true, false, refl, sym, ap, ◌∙◌, arith, eqb-true, nat_lt, nat_le, inl, inr, subst, List, [], length, take, drop, ◌++◌, rules, take-append_seam, and_parts, and_from, cases_eq, or_cases, total_congr, Within, bit, count, mem, Set, meet, singleton, union}
 use Rattle.graph_core.proofs.Common.{Graph, IsGraph, HasEnds, degree, first_end, second_end, IsMatching, missed_count, edge_at}
 use Rattle.match_search.specs.Common.{HoldsMatching, IsInstance, IsSized, MayBeExposed, ServesRows, HasMates, with_mate, HasFrame, IsMissableRow, numbers}
 use Rattle.match_search.specs.declared.answer.FinalSets.{FinalSets}

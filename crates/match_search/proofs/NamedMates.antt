@@ -1,6 +1,6 @@
 -- The mates that a pass over marked edges names are those of the matching. Idea: a vertex without a
 -- named mate meets no marked edge, and any other is joined to its mate by the edge that named it.
-use Rattle.counting.proofs.Common.{◌≡◌, ℕ, ◌+◌, ◌-◌, ap, ◌∙◌, arith, List, length, inl, inr, Set}
+use Rattle.graph_core.proofs.from_counting.Common.{◌≡◌, ℕ, ◌+◌, ◌-◌, ap, ◌∙◌, arith, List, length, inl, inr, Set}
 use Rattle.graph_core.proofs.Common.{IsMatching, graph_of}
 use Rattle.graph_core.specs.declared.ends.Ends.{Ends}
 use Rattle.match_search.specs.Common.{HasMates, NamesMates, numbers, end_a, end_b}

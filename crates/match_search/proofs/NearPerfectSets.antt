@@ -1,7 +1,7 @@
 -- A set of edges is near-perfect in C for a vertex t: it meets each vertex of C but t once. How
 -- many ends has it at each vertex, and how many edges? And how do the degrees add up where the
 -- edges of a set are those of two others?
-use Rattle.counting.proofs.Common.{◌≡◌, ℕ, suc, ◌+◌, ◌*◌, ◌≤◌, ◌≢◌, Bool, true, false, ◌==◌, refl, sym, ap, ap₂, ◌∙◌, arith, ◌&&◌, ◌||◌, not, eq-eqb, inl, cases_Bool, count_put, total_add, total_congr, Within, bit, count, Set}
+use Rattle.graph_core.proofs.from_counting.Common.{◌≡◌, ℕ, suc, ◌+◌, ◌*◌, ◌≤◌, ◌≢◌, Bool, true, false, ◌==◌, refl, sym, ap, ap₂, ◌∙◌, arith, ◌&&◌, ◌||◌, not, eq-eqb, inl, cases_Bool, count_put, total_add, total_congr, Within, bit, count, Set}
 use Rattle.graph_core.proofs.Common.{degree_sum, ends_le_degree, ends_of, ends_of_is, sum_degrees, Graph, IsGraph, degree, first_end, second_end, size}
 use Rattle.match_search.specs.Common.{IsNearPerfect}
 

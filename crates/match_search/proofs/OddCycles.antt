@@ -1,7 +1,7 @@
 -- An odd cycle has a near-perfect matching for each of its vertices: every other edge on the way
 -- round. The two edges at a vertex have neighbouring places, of which exactly one is chosen
 -- unless the way starts there.
-use Rattle.counting.proofs.Common.{◌≡◌, ℕ, suc, zero, ◌+◌, ◌*◌, ◌≢◌, Bool, true, false, cond, ◌==◌, refl, sym, ap, ◌∙◌, arith, ◌&&◌, not, eq-eqb, ne_eqb, eqb-true, ◌⊎◌, mul-add, cases_eq, some_none, some_true, true_some, total_add, total_at, total_congr, total_none, Within, bit, count, is_odd, total, Set}
+use Rattle.graph_core.proofs.from_counting.Common.{◌≡◌, ℕ, suc, zero, ◌+◌, ◌*◌, ◌≢◌, Bool, true, false, cond, ◌==◌, refl, sym, ap, ◌∙◌, arith, ◌&&◌, not, eq-eqb, ne_eqb, eqb-true, ◌⊎◌, mul-add, cases_eq, some_none, some_true, true_some, total_add, total_at, total_congr, total_none, Within, bit, count, is_odd, total, Set}
 use Rattle.graph_core.proofs.Common.{image, total_image, degree_sum, ends_of, ends_of_is, Graph, degree, size, HasEnds}
 use Rattle.match_search.specs.Common.{IsOddCycle, listed, next, every_other, picked, IsNearPerfect}
 

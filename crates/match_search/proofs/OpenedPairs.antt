@@ -1,7 +1,7 @@
 -- A blossom opened by mates: an edge is taken out, another is put in its place at the tip, and
 -- the cycle is paired round from there. Each change is one of a few edges, so the mates change at
 -- their ends alone.
-use Rattle.counting.proofs.Common.{◌≡◌, ◌≢◌, ℕ, zero, suc, ◌+◌, ◌≤◌, Bool, true, false, cond, ◌==◌, refl, sym, ap, ◌∙◌, arith, eq-eqb, ne_eqb, eqb-true, inl, inr, ◌⊎◌, not, ◌&&◌, subst, cases_Bool, cases_eq, both_ways, and_parts, and_from, true≢false, count_put, some_true, true_some, Within, bit, count, Set, put, union}
+use Rattle.graph_core.proofs.from_counting.Common.{◌≡◌, ◌≢◌, ℕ, zero, suc, ◌+◌, ◌≤◌, Bool, true, false, cond, ◌==◌, refl, sym, ap, ◌∙◌, arith, eq-eqb, ne_eqb, eqb-true, inl, inr, ◌⊎◌, not, ◌&&◌, subst, cases_Bool, cases_eq, both_ways, and_parts, and_from, true≢false, count_put, some_true, true_some, Within, bit, count, Set, put, union}
 use Rattle.graph_core.proofs.Common.{degree_put, edge_at, ends_of_is, Graph, HasEnds, IsGraph, degree, size, IsMatching}
 use Rattle.match_search.specs.Common.{IsNearPerfect, HasMates, paired_round, with_mate, with_pair, IsOddCycle, every_other, listed, next, picked}
 use Rattle.match_search.proofs.Forests.{met, one_edge, turned}

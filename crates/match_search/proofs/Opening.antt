@@ -1,7 +1,7 @@
 -- The opening of a blossom after its shrinking, in the words of what its caller knows. Where the
 -- base is free, the cycle is paired round from it; else the mate of the base is near a vertex of
 -- the cycle, its tip.
-use Rattle.counting.proofs.Common.{◌≡◌, ◌≢◌, ℕ, suc, ◌≤◌, true, arith, length, List, get_or, get_or_default_zero, Within, Set, mem}
+use Rattle.graph_core.proofs.from_counting.Common.{◌≡◌, ◌≢◌, ℕ, suc, ◌≤◌, true, arith, length, List, get_or, get_or_default_zero, Within, Set, mem}
 use Rattle.graph_core.proofs.Common.{Graph}
 use Rattle.match_search.specs.Common.{IsCompleted, MayOpen, blossom_length, Touches, paired_round, with_mate, with_pair, numbers}
 use Rattle.match_search.specs.declared.blossom.Blossom.{Blossom}

@@ -1,6 +1,6 @@
 -- Forests by parents: the first one, one more branch, and the last one as a frame. The path of a
 -- new outer vertex is that of its grandparent, and on by its mate; all other paths stay.
-use Rattle.counting.proofs.Common.{◌≡◌, ◌≢◌, ℕ, suc, ◌+◌, Bool, true, false, cond, ◌==◌, refl, sym, ap, ◌∙◌, arith, eq-eqb, ne_eqb, inl, inr, ◌&&◌, ◌||◌, nat_lt, nat_le, length, List, leb-true, cases_eq, both_ways, and_parts, Within, count, Set, none, mem}
+use Rattle.graph_core.proofs.from_counting.Common.{◌≡◌, ◌≢◌, ℕ, suc, ◌+◌, Bool, true, false, cond, ◌==◌, refl, sym, ap, ◌∙◌, arith, eq-eqb, ne_eqb, inl, inr, ◌&&◌, ◌||◌, nat_lt, nat_le, length, List, leb-true, cases_eq, both_ways, and_parts, Within, count, Set, none, mem}
 use Rattle.graph_core.proofs.Common.{Graph, HasEnds, IsGraph, degree, size}
 use Rattle.match_search.specs.Common.{AreExposed, GrowsForest, IsAlternatingForest, Frame, Touches, HoldsMatching, HoldsAlternating, HasBranched, HasRestarted, GoesUp, IsDone, IsSized, numbers}
 use Rattle.match_search.specs.declared.instance.Instance.{Instance}

@@ -1,6 +1,6 @@
 -- The blossom that two paths of a forest close. Two paths that meet are one up to the base, and
 -- the vertices that come after it on one of them are the others of the blossom.
-use Rattle.counting.proofs.Common.{◌≡◌, ◌≢◌, ◌↔◌, ℕ, suc, ◌+◌, ◌-◌, ◌≤◌, ◌<◌, Bool, true, false, refl, sym, ap, ◌∙◌, arith, inl, inr, not, ◌&&◌, ◌||◌, ◌==◌, subst, eq-eqb, eqb-true, List, and_from, both_ways, cases_Bool, cases_eq, half, odd-double, only_one, or_cases, or_left, or_right, some_true, true_some, Within, is_odd, Set, mem}
+use Rattle.graph_core.proofs.from_counting.Common.{◌≡◌, ◌≢◌, ◌↔◌, ℕ, suc, ◌+◌, ◌-◌, ◌≤◌, ◌<◌, Bool, true, false, refl, sym, ap, ◌∙◌, arith, inl, inr, not, ◌&&◌, ◌||◌, ◌==◌, subst, eq-eqb, eqb-true, List, and_from, both_ways, cases_Bool, cases_eq, half, odd-double, only_one, or_cases, or_left, or_right, some_true, true_some, Within, is_odd, Set, mem}
 use Rattle.graph_core.proofs.Common.{Graph, HasEnds, degree, missed_count}
 use Rattle.match_search.specs.Common.{HoldsAlternating, ClosesForest, GoesOver, IsBeyond, IsLastIn, IsOuterOf, MeetsSet, IsAlternating, IsFlower, IsOddCycle, listed, numbers}
 use Rattle.match_search.specs.declared.alternating.AlternatingForest.{AlternatingForest}

@@ -1,7 +1,7 @@
 -- One step of the path up from an outer vertex: over its mate to its grandparent. Idea: the path of
 -- the vertex is that of its grandparent with two more vertices, so writing these two leaves the
 -- grandparent's path to be written.
-use Rattle.counting.proofs.Common.{◌≡◌, ◌≢◌, ℕ, suc, ◌+◌, ◌≤◌, ◌<◌, true, sym, ap, ◌∙◌, arith, inl, inr, subst, List, cases_eq, Within, Set, mem}
+use Rattle.graph_core.proofs.from_counting.Common.{◌≡◌, ◌≢◌, ℕ, suc, ◌+◌, ◌≤◌, ◌<◌, true, sym, ap, ◌∙◌, arith, inl, inr, subst, List, cases_eq, Within, Set, mem}
 use Rattle.graph_core.proofs.Common.{Graph}
 use Rattle.match_search.specs.Common.{HoldsAlternating, with_mate, numbers}
 use Rattle.match_search.specs.declared.alternating.AlternatingForest.{AlternatingForest}

@@ -1,6 +1,6 @@
 -- What the neighbours of an outer vertex show that are left and not inner. Each further branch is a
 -- step nearer to the end.
-use Rattle.counting.proofs.Common.{◌≡◌, ◌≢◌, ℕ, suc, ◌+◌, ◌-◌, ◌*◌, ◌≤◌, ◌<◌, true, false, ◌==◌, ap, ◌∙◌, arith, not, ◌&&◌, ◌||◌, List, [], both_ways, and_from, false_from_ne_true, count_le, Within, count, Set, mem}
+use Rattle.graph_core.proofs.from_counting.Common.{◌≡◌, ◌≢◌, ℕ, suc, ◌+◌, ◌-◌, ◌*◌, ◌≤◌, ◌<◌, true, false, ◌==◌, ap, ◌∙◌, arith, not, ◌&&◌, ◌||◌, List, [], both_ways, and_from, false_from_ne_true, count_le, Within, count, Set, mem}
 use Rattle.graph_core.proofs.Common.{count_gained, count_lost, Graph}
 use Rattle.match_search.specs.Common.{HoldsAlternating, IsDone, AreNear, Touches}
 use Rattle.match_search.specs.declared.instance.Instance.{Instance}

@@ -1,7 +1,7 @@
 -- Two matchings with the same mates have the same degrees, so they have the same number of edges.
 -- Idea: the degree of a vertex is 1 if it has a mate and 0 if not, and the degrees of all vertices
 -- add up to twice the number of edges.
-use Rattle.counting.proofs.Common.{◌≡◌, ℕ, ◌+◌, ◌*◌, ◌==◌, sym, ap, ◌∙◌, arith, inl, inr, not, ◌&&◌, eq-eqb, ne_eqb, cases_eq, total_congr, Within, bit, count, Set, complement}
+use Rattle.graph_core.proofs.from_counting.Common.{◌≡◌, ℕ, ◌+◌, ◌*◌, ◌==◌, sym, ap, ◌∙◌, arith, inl, inr, not, ◌&&◌, eq-eqb, ne_eqb, cases_eq, total_congr, Within, bit, count, Set, complement}
 use Rattle.graph_core.proofs.Common.{missed_edges, Graph, IsGraph, degree, size, missed_count}
 use Rattle.match_search.specs.Common.{HasMates}
 use Rattle.match_search.proofs.Forests.{met}

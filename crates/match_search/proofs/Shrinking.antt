@@ -1,6 +1,6 @@
 -- A set C is shrunk to one vertex z of it. What are the degrees in the shrunk graph? Outside C
 -- they stay, those in C sum to the degree of z, and a vertex of C but z has none.
-use Rattle.counting.proofs.Common.{◌≡◌, ℕ, ◌+◌, ◌*◌, ◌≤◌, ◌<◌, ◌≢◌, Bool, true, false, ◌==◌, sym, ap, ap₂, ◌∙◌, arith, ◌&&◌, inl, inr, List, mul-add, get_or-map, length-map, cases_eq, cases_order, count_congr, at_le_total, some_term, total_add, total_congr, total_none, two_le_total, and_false, Within, bit, count, total, Set}
+use Rattle.graph_core.proofs.from_counting.Common.{◌≡◌, ℕ, ◌+◌, ◌*◌, ◌≤◌, ◌<◌, ◌≢◌, Bool, true, false, ◌==◌, sym, ap, ap₂, ◌∙◌, arith, ◌&&◌, inl, inr, List, mul-add, get_or-map, length-map, cases_eq, cases_order, count_congr, at_le_total, some_term, total_add, total_congr, total_none, two_le_total, and_false, Within, bit, count, total, Set}
 use Rattle.graph_core.proofs.Common.{ends_in, Graph, IsGraph, degree, first_end, second_end, size, with_ends}
 use Rattle.match_search.specs.Common.{IsShrunk, shrunk_ends, shrunk_vertex, shrunk_removed}
 

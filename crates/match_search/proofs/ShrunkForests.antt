@@ -2,7 +2,7 @@
 -- and what are the mates? Idea: all mates in the set but that of the base are in the set. So
 -- outside the set and at the base the degrees and the mates are what they were, and in the set
 -- there are none.
-use Rattle.counting.proofs.Common.{◌≡◌, ◌≢◌, ℕ, suc, ◌+◌, ◌*◌, ◌≤◌, ◌⊎◌, true, false, cond, ◌==◌, refl, sym, ap, ◌∙◌, arith, not, ◌&&◌, ◌||◌, eq-eqb, ne_eqb, inl, inr, subst, List, and_false, and_from, and_parts, both_ways, cases_Bool, cases_eq, false_from_ne_true, not-true, total_at, Within, bit, count, Set, minus}
+use Rattle.graph_core.proofs.from_counting.Common.{◌≡◌, ◌≢◌, ℕ, suc, ◌+◌, ◌*◌, ◌≤◌, ◌⊎◌, true, false, cond, ◌==◌, refl, sym, ap, ◌∙◌, arith, not, ◌&&◌, ◌||◌, eq-eqb, ne_eqb, inl, inr, subst, List, and_false, and_from, and_parts, both_ways, cases_Bool, cases_eq, false_from_ne_true, not-true, total_at, Within, bit, count, Set, minus}
 use Rattle.graph_core.proofs.Common.{edge_at, Graph, HasEnds, IsGraph, IsMatching, degree, size, with_ends}
 use Rattle.match_search.specs.Common.{HasMates, IsContractible, IsAlternatingForest, IsShrunk, shrunk_removed, shrunk_vertex}
 use Rattle.match_search.proofs.Forests.{met, one_edge, turned}

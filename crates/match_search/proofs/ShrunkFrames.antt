@@ -1,6 +1,6 @@
 -- A set C is shrunk to one vertex z of it. Do labellings and frames of the shrunk graph go up?
 -- Yes: each vertex of C gets the label of z, and is outer.
-use Rattle.counting.proofs.Common.{◌≡◌, ℕ, suc, ◌+◌, ◌*◌, ◌≤◌, Bool, true, false, cond, ◌==◌, refl, sym, ap, ap₂, ◌∙◌, arith, ◌||◌, not, eq-eqb, ne_eqb, inl, inr, nat_lt, List, cases_Bool, odd-add, odd-double, total_add, total_at, total_congr, or_false, or_true, Within, bit, count, is_odd, total, Set, complement, union}
+use Rattle.graph_core.proofs.from_counting.Common.{◌≡◌, ℕ, suc, ◌+◌, ◌*◌, ◌≤◌, Bool, true, false, cond, ◌==◌, refl, sym, ap, ap₂, ◌∙◌, arith, ◌||◌, not, eq-eqb, ne_eqb, inl, inr, nat_lt, List, cases_Bool, odd-add, odd-double, total_add, total_at, total_congr, or_false, or_true, Within, bit, count, is_odd, total, Set, complement, union}
 use Rattle.graph_core.proofs.Common.{Graph, IsGraph, degree, first_end, second_end, size, HasEnds, with_ends, IsMatching}
 use Rattle.match_search.specs.Common.{Frame, IsCertificate, IsOddLabelling, IsNearPerfect, IsShrunk, shrunk_vertex, shrunk_removed}
 use Rattle.match_search.proofs.Certificates.{certificate_tight}
@@ -46,7 +46,7 @@ module _ (g : Graph) (is : IsGraph g) (r c : Set) (z : ℕ) (es : List (ℕ × �
         ∙ sym (total_add g.order (λ v. bit (lifted label v == j)) (λ v. bit (z == v) * bit (label z == j)))
         ∙ total_congr g.order _ _ (λ v w. grind arith)
         ∙ total_add g.order (λ v. bit (label v == j)) (λ v. bit (label z == j) * bit (c v))
-        ∙ ap (λ k. count g.order (λ v. label v == j) + k) (Rattle.counting.proofs.Totals.total_mul g.order (bit (label z == j)) (λ v. bit (c v)))
+        ∙ ap (λ k. count g.order (λ v. label v == j) + k) (Rattle.graph_core.proofs.from_counting.Totals.total_mul g.order (bit (label z == j)) (λ v. bit (c v)))
 
     pub labels_up : IsOddLabelling g (union r s) (lifted label) p
     labels_up = grind (arith, low_at, x_out, shut_out g is r c z es pulls cr wz cz, lifted_is, pulled_free, odd_at)

@@ -1,7 +1,7 @@
 -- An instance with a blossom shrunk is the graph with the blossom's vertices made one. The base
 -- has the neighbours and the members of the blossom's vertices: what one of them touched it
 -- touches, and what touched one of them touches it.
-use Rattle.counting.proofs.Common.{◌≡◌, ◌≢◌, ℕ, Bool, true, false, cond, ◌==◌, sym, ap, ◌∙◌, arith, eq-eqb, eqb-true, ne_eqb, inl, inr, not, ◌&&◌, ◌||◌, List, subst, nat_lt, nat_le, rules, and_parts, cases_eq, both_ways, or_cases, true≢false, false_from_ne_true, Within, Set, mem, item}
+use Rattle.graph_core.proofs.from_counting.Common.{◌≡◌, ◌≢◌, ℕ, Bool, true, false, cond, ◌==◌, sym, ap, ◌∙◌, arith, eq-eqb, eqb-true, ne_eqb, inl, inr, not, ◌&&◌, ◌||◌, List, subst, nat_lt, nat_le, rules, and_parts, cases_eq, both_ways, or_cases, true≢false, false_from_ne_true, Within, Set, mem, item}
 use Rattle.graph_core.proofs.Common.{Graph, HasEnds, IsGraph, size, with_ends}
 use Rattle.match_search.specs.Common.{IsShrunk, shrunk_removed, shrunk_vertex, IsInstance, Touches, IsShrinking}
 use Rattle.match_search.specs.declared.instance.Instance.{Instance}

@@ -1,7 +1,7 @@
 -- A set C that has a near-perfect matching for each of its vertices is shrunk to one vertex z of
 -- it. Which matchings go down and up? Down goes one that misses z, without its edges in C; up
 -- goes each, with a near-perfect set of C for the end of its edge at z.
-use Rattle.counting.proofs.Common.{◌≡◌, ℕ, suc, ◌+◌, ◌*◌, ◌≢◌, true, false, refl, sym, ap, ◌∙◌, arith, eq-eqb, inl, inr, List, cases_eq, cases_Bool, both_ways, false_from_ne_true, total_at, total_none, Within, bit, count, Set, minus, union}
+use Rattle.graph_core.proofs.from_counting.Common.{◌≡◌, ℕ, suc, ◌+◌, ◌*◌, ◌≢◌, true, false, refl, sym, ap, ◌∙◌, arith, eq-eqb, inl, inr, List, cases_eq, cases_Bool, both_ways, false_from_ne_true, total_at, total_none, Within, bit, count, Set, minus, union}
 use Rattle.graph_core.proofs.Common.{ends_le_degree, ends_of_is, Graph, IsGraph, degree, size, with_ends, IsMatching}
 use Rattle.match_search.specs.Common.{IsNearPerfect, IsShrunk, shrunk_removed}
 use Rattle.match_search.proofs.NearPerfectSets.{count_split, degree_split, bit_minus, bit_union, near_in, far_in, near_perfect_count, at_t, at_other, at_out}

@@ -1,6 +1,6 @@
 -- A path that leaves out some of its places: up to place b the places are the old ones, and beyond
 -- it the old ones s later. The edge after place b is the one that led on from place b + s.
-use Rattle.counting.proofs.Common.{◌≡◌, ◌≢◌, ℕ, suc, ◌+◌, ◌≤◌, ◌<◌, cond, ap, ◌∙◌, arith, not, nat_le, nat_lt, lt-ltb, le-ltb, cases_lt, le-leb, lt-leb, odd-double, odd-add, is_odd}
+use Rattle.graph_core.proofs.from_counting.Common.{◌≡◌, ◌≢◌, ℕ, suc, ◌+◌, ◌≤◌, ◌<◌, cond, ap, ◌∙◌, arith, not, nat_le, nat_lt, lt-ltb, le-ltb, cases_lt, le-leb, lt-leb, odd-double, odd-add, is_odd}
 
 abbrev pub place : ℕ → ℕ → ℕ → ℕ
 place b s j = cond (nat_le j b) j (j + s)

@@ -1,6 +1,6 @@
 -- A matching of G - R can be made larger by one edge, or has a frame. Induction on the vertices
 -- outside R and on the forest: a closing edge augments, or its cycle is shrunk.
-use Rattle.counting.proofs.Common.{◌≡◌, ℕ, suc, zero, ◌+◌, ◌-◌, ◌≤◌, ◌<◌, ◌≢◌, Bool, true, false, ◌==◌, refl, sym, ◌∙◌, arith, ◌&&◌, not, ◌⊎◌, inl, inr, subst, cases_eq, cases_Bool, both_ways, count_le, scan, half, Within, count, is_odd, Set, complement, none}
+use Rattle.graph_core.proofs.from_counting.Common.{◌≡◌, ℕ, suc, zero, ◌+◌, ◌-◌, ◌≤◌, ◌<◌, ◌≢◌, Bool, true, false, ◌==◌, refl, sym, ◌∙◌, arith, ◌&&◌, not, ◌⊎◌, inl, inr, subst, cases_eq, cases_Bool, both_ways, count_le, scan, half, Within, count, is_odd, Set, complement, none}
 use Rattle.graph_core.proofs.Common.{Graph, IsGraph, first_end, second_end, size, HasEnds, IsMatching}
 use Rattle.match_search.proofs.LongerPaths.{end_within, ends_by}
 use Rattle.match_search.proofs.Forests.{first_outer, forest_start, outer_edge, turned, final_frame}

@@ -2,7 +2,7 @@
 -- exists. The path goes on by the perfect matching's edge and the given one's in turn until it
 -- meets the other missed vertex.
 use Rattle.graph_core.proofs.Common.{perfect_matching, degree_put, ends_le_degree, ends_of, ends_of_is, bit_same, Graph, IsGraph, degree, size, HasEnds, IsMatching, IsPerfect}
-use Rattle.counting.proofs.Common.{◌≡◌, ℕ, suc, zero, ◌+◌, ◌*◌, ◌≤◌, ◌<◌, ◌≢◌, true, false, ◌==◌, refl, sym, ap, ◌∙◌, arith, not, eq-eqb, ne_eqb, ◌⊎◌, inl, inr, subst, ◌-◌, cases_eq, cases_Bool, cases_order, both_ways, true≢false, false_from_ne_true, count_le, odd-double, total_congr, not_not, Within, bit, count, is_odd, total, Set, put}
+use Rattle.graph_core.proofs.from_counting.Common.{◌≡◌, ℕ, suc, zero, ◌+◌, ◌*◌, ◌≤◌, ◌<◌, ◌≢◌, true, false, ◌==◌, refl, sym, ap, ◌∙◌, arith, not, eq-eqb, ne_eqb, ◌⊎◌, inl, inr, subst, ◌-◌, cases_eq, cases_Bool, cases_order, both_ways, true≢false, false_from_ne_true, count_le, odd-double, total_congr, not_not, Within, bit, count, is_odd, total, Set, put}
 use Rattle.match_search.proofs.OddCycles.{same_ends, total_picked}
 use Rattle.match_search.proofs.LongerPaths.{edge_spots, end_within, ends_by, extended, longer}
 use Rattle.match_search.proofs.Forests.{met, one_edge, turned}

@@ -1,6 +1,6 @@
 -- A forest as the code holds it, by rows, is a forest with functions for the parents and the mates.
 -- Idea: the two records hold the same facts under other names, so each is written from the other.
-use Rattle.counting.proofs.Common.{◌≡◌, ℕ, suc, List, length, Set, mem}
+use Rattle.graph_core.proofs.from_counting.Common.{◌≡◌, ℕ, suc, List, length, Set, mem}
 use Rattle.graph_core.proofs.Common.{Graph}
 use Rattle.match_search.specs.Common.{HoldsAlternating, numbers}
 use Rattle.match_search.specs.declared.alternating.AlternatingForest.{AlternatingForest}

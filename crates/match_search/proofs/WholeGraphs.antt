@@ -1,6 +1,6 @@
 -- The order and the ends of a graph, as the code reads them, make the graph again.
 -- What is proved of these ends is so said of the graph, by one equation.
-use Rattle.counting.proofs.Common.{◌≡◌, ℕ, suc, ◌-◌, ◌<◌, List, length, sym, ap, ◌∙◌, arith, subst, inl, Within}
+use Rattle.graph_core.proofs.from_counting.Common.{◌≡◌, ℕ, suc, ◌-◌, ◌<◌, List, length, sym, ap, ◌∙◌, arith, subst, inl, Within}
 use Rattle.graph_core.proofs.Common.{Graph, HasEnds, IsGraph, first_end, second_end, size, AreRows, graph_of, IsWithinLimits}
 use Rattle.graph_core.specs.declared.ends.Ends.{Ends}
 use Rattle.match_search.specs.Common.{end_a, end_b, AreEnds, IsGraphRow}

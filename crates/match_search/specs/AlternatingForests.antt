@@ -2,7 +2,7 @@
 -- goes on from there by mates.
 -- Stated by: match_search. Used by: match_core.
 use Rattle.std.specs.Prelude.{◌≢◌, ◌≡◌, ℕ, suc, ◌+◌, ◌≤◌, ◌==◌, ◌&&◌, ◌||◌, ◌⊎◌, not, true, false, length, List, Option, Some, None}
-use Rattle.counting.specs.Common.{Set, mem}
+use Rattle.graph_core.specs.from_counting.Common.{Set, mem}
 use Rattle.graph_core.specs.Common.{Graph}
 use Rattle.match_search.specs.Forests.{IsAlternatingForest}
 use Rattle.match_search.specs.Frames.{shrunk_vertex}

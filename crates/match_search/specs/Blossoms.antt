@@ -2,7 +2,7 @@
 -- with as many edges of the matching as possible.
 -- Stated by: match_search.
 use Rattle.std.specs.Prelude.{◌≡◌, ◌≢◌, ℕ, suc, ◌+◌, ◌-◌, ◌≤◌, ◌⊎◌, true, false, length, List, Option, Some, None}
-use Rattle.counting.specs.Common.{Within, count, is_odd, Set, mem}
+use Rattle.graph_core.specs.from_counting.Common.{Within, count, is_odd, Set, mem}
 use Rattle.graph_core.specs.Common.{Graph, HasEnds, IsGraph, size, with_ends}
 use Rattle.match_search.specs.AlternatingForests.{HoldsAlternating}
 use Rattle.match_search.specs.Forests.{IsAlternating}

@@ -2,7 +2,7 @@
 -- that misses one vertex.
 -- Stated by: match_search.
 use Rattle.std.specs.Prelude.{◌≡◌, ◌≢◌, ◌↔◌, ℕ, suc, ◌+◌, ◌≤◌, ◌<◌, true, false, length, List}
-use Rattle.counting.specs.Common.{Within, count, Set, mem}
+use Rattle.graph_core.specs.from_counting.Common.{Within, count, Set, mem}
 use Rattle.graph_core.specs.Common.{Graph, first_end, second_end, size, missed_count}
 use Rattle.match_search.specs.AlternatingForests.{HoldsAlternating, HoldsMatching}
 use Rattle.match_search.specs.Frames.{Frame}

@@ -2,7 +2,7 @@
 -- counted in pairs.
 -- Stated by: match_core. Used by: match_search.
 use Rattle.std.specs.Prelude.{◌≡◌, ℕ, zero, suc, ◌+◌, ◌≤◌, ◌<◌, true, false, not}
-use Rattle.counting.specs.Common.{Within, is_odd, Set, put}
+use Rattle.graph_core.specs.from_counting.Common.{Within, is_odd, Set, put}
 use Rattle.graph_core.specs.Common.{Graph, degree, first_end, second_end, size, HasEnds}
 
 -- f after the first k pairs of edges of a path were exchanged: the first of each pair in, the

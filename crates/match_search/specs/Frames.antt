@@ -3,7 +3,7 @@
 -- vertex set to one of its vertices.
 -- Stated by: match_search. Used by: match_core, theorems.
 use Rattle.std.specs.Prelude.{◌≡◌, ℕ, ◌+◌, ◌*◌, ◌≤◌, true, false, List, ◌==◌, nat_lt, ◌&&◌, ◌||◌, not, length, map, cond}
-use Rattle.counting.specs.Common.{Within, bit, count, is_odd, Set, complement, union}
+use Rattle.graph_core.specs.from_counting.Common.{Within, bit, count, is_odd, Set, complement, union}
 use Rattle.graph_core.specs.Common.{Graph, HasEnds, degree, first_end, second_end, size, with_ends, IsMatching}
 
 -- z if v is in c, otherwise v

@@ -1,7 +1,7 @@
 -- A graph as the row of the ends of its edges, and rows over its vertices.
 -- Stated by: match_search, match_core.
 use Rattle.std.specs.Prelude.{◌≡◌, ◌≢◌, ℕ, ◌+◌, ◌-◌, ◌<◌, ◌≤◌, ◌⊎◌, true, length, List}
-use Rattle.counting.specs.Common.{Within, Set}
+use Rattle.graph_core.specs.from_counting.Common.{Within, Set}
 use Rattle.match_search.specs.Rows.{numbers, end_a, end_b}
 use Rattle.graph_core.specs.declared.ends.Ends.{Ends}
 

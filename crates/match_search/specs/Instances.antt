@@ -1,7 +1,7 @@
 -- G - R, by rows of neighbours: what the search of the engine reads.
 -- Stated by: match_search. Used by: match_core.
 use Rattle.std.specs.Prelude.{◌≡◌, ◌≢◌, ◌↔◌, ℕ, ◌≤◌, ◌&&◌, false, true, not, nat_lt, nat_le, length, List}
-use Rattle.counting.specs.Common.{Within, Set, mem, item}
+use Rattle.graph_core.specs.from_counting.Common.{Within, Set, mem, item}
 use Rattle.graph_core.specs.Common.{Graph, HasEnds, IsGraph, size}
 use Rattle.match_search.specs.declared.instance.Instance.{Instance}
 

@@ -2,7 +2,7 @@
 -- several parallel edges joins two mates is not recorded.
 -- Stated by: match_search, match_core. Used by: ear_core.
 use Rattle.std.specs.Prelude.{◌≡◌, ◌≢◌, ℕ, zero, suc, ◌+◌, ◌<◌, ◌⊎◌, ◌==◌, cond, true, false, List}
-use Rattle.counting.specs.Common.{Within, Set, none}
+use Rattle.graph_core.specs.from_counting.Common.{Within, Set, none}
 use Rattle.graph_core.specs.Common.{Graph, HasEnds, degree, first_end, second_end, size, IsMatching}
 use Rattle.match_search.specs.OddCycles.{every_other, listed, next}
 use Rattle.match_search.specs.Rows.{numbers, end_a, end_b}

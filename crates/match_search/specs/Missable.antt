@@ -2,7 +2,7 @@
 -- table share.
 -- Stated by: match_search, match_core.
 use Rattle.std.specs.Prelude.{◌≡◌, ◌≢◌, ℕ, ◌-◌, true, false, length, List}
-use Rattle.counting.specs.Common.{Within, count, Set, mem}
+use Rattle.graph_core.specs.from_counting.Common.{Within, count, Set, mem}
 use Rattle.graph_core.specs.Common.{Graph, size, IsMatching, missed_count}
 use Rattle.match_search.specs.Frames.{Frame}
 use Rattle.match_search.specs.Mates.{HasMates}

@@ -1,7 +1,7 @@
 -- Odd cycles, by the places of their vertices and edges from 1 on.
 -- Stated by: match_search. Used by: match_core.
 use Rattle.std.specs.Prelude.{◌≡◌, ℕ, suc, ◌≤◌, Bool, true, false, ◌==◌, nat_lt, ◌&&◌, ◌||◌, not, cond}
-use Rattle.counting.specs.Common.{Within, is_odd, Set, some}
+use Rattle.graph_core.specs.from_counting.Common.{Within, is_odd, Set, some}
 use Rattle.graph_core.specs.Common.{Graph, HasEnds, size}
 
 -- {pick i : i in m ∩ {1, .., k}}

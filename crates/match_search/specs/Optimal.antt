@@ -1,7 +1,7 @@
 -- The result of the engine for a whole graph.
 -- Stated by: match_search, match_core.
 use Rattle.std.specs.Prelude.{◌≡◌, ◌+◌, length}
-use Rattle.counting.specs.Common.{count, Set, mem}
+use Rattle.graph_core.specs.from_counting.Common.{count, Set, mem}
 use Rattle.graph_core.specs.Common.{Graph, size, IsMatching}
 use Rattle.match_search.specs.Frames.{Frame}
 use Rattle.match_search.specs.Rows.{marks}

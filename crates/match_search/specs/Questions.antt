@@ -1,7 +1,7 @@
 -- Perfect matchings that contain given edges.
 -- Stated by: match_core. Used by: match_search, allowed_edges, ear_core.
 use Rattle.std.specs.Prelude.{◌≡◌, ℕ, true, List}
-use Rattle.counting.specs.Common.{Within, bit, Set, none, mem}
+use Rattle.graph_core.specs.from_counting.Common.{Within, bit, Set, none, mem}
 use Rattle.graph_core.specs.Common.{Graph, degree, IsPerfect}
 
 -- each edge of the list is in m

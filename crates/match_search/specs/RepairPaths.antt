@@ -2,7 +2,7 @@
 -- path.
 -- Stated by: match_core.
 use Rattle.std.specs.Prelude.{◌≡◌, ℕ, suc, ◌+◌, ◌≤◌, ◌<◌, ◌≢◌, ◌↔◌, true, false, List, not, length}
-use Rattle.counting.specs.Common.{Within, is_odd, Set, put}
+use Rattle.graph_core.specs.from_counting.Common.{Within, is_odd, Set, put}
 use Rattle.graph_core.specs.Common.{Graph, HasEnds, degree, size, IsPerfect}
 use Rattle.match_search.specs.Forests.{IsAlternating, flipped}
 use Rattle.match_search.specs.OddCycles.{same_answer}

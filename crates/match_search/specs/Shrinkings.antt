@@ -1,7 +1,7 @@
 -- An instance with a blossom shrunk to its base.
 -- Stated by: match_search, match_core.
 use Rattle.std.specs.Prelude.{◌≡◌, ◌≢◌, ◌↔◌, ℕ, ◌&&◌, ◌||◌, ◌==◌, not, true, List, length}
-use Rattle.counting.specs.Common.{Within, Set, mem, item}
+use Rattle.graph_core.specs.from_counting.Common.{Within, Set, mem, item}
 use Rattle.match_search.specs.declared.instance.Instance.{Instance}
 use Rattle.match_search.specs.declared.instance.Unshrunk.{Unshrunk}
 

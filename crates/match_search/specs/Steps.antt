@@ -2,7 +2,7 @@
 -- cycle is prepared for its shrinking.
 -- Stated by: match_search.
 use Rattle.std.specs.Prelude.{◌≡◌, ℕ, ◌+◌, true}
-use Rattle.counting.specs.Common.{count, Within, Set, minus, union, mem}
+use Rattle.graph_core.specs.from_counting.Common.{count, Within, Set, minus, union, mem}
 use Rattle.graph_core.specs.Common.{Graph, size, degree, IsMatching}
 use Rattle.match_search.specs.Frames.{Frame}
 use Rattle.match_search.specs.OddCycles.{IsOddCycle, every_other, picked}

@@ -5,11 +5,11 @@
 //! root, or the child of its mate, which is inner; an inner vertex is the child of its parent, an
 //! outer neighbour.
 ghost use Rattle.std.specs.Prelude.{◌≡◌, ℕ, ◌+◌, ◌<◌, ◌≤◌, ◌==◌, ◌&&◌, true, false, length, IfOk};
-ghost use Rattle.counting.specs.Common.{Within, mem};
+ghost use Rattle.graph_core.specs.from_counting.Common.{Within, mem};
 ghost use Rattle.match_search.specs.Common.{AreExposed, HasBranched, HasContracted, HasRestarted, IsSized, MayBeExposed, numbers, shrunk_vertex};
 
+use graph_core::vset_core::{MOST_VERTICES, VSet};
 use std::alloc::{AllocError as Memory, Global};
-use vset_core::{MOST_VERTICES, VSet};
 
 /// An alternating forest: its outer and its inner vertices, and for each inner vertex its parent.
 ///

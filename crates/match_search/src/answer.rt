@@ -5,10 +5,10 @@
 //! vertices are deleted, the outer ones form odd components. A matching can match at most as many
 //! of these components as there are inner vertices, and misses a vertex in each of the others, so
 //! none is larger.
-ghost use Rattle.counting.specs.Common.{mem};
+ghost use Rattle.graph_core.specs.from_counting.Common.{mem};
 ghost use Rattle.match_search.specs.Common.{IsWidened};
 
-use vset_core::VSet;
+use graph_core::vset_core::VSet;
 
 /// The outer and the inner vertices of a frame.
 #[derive(Drop)]

@@ -11,7 +11,7 @@
 //! path to the base were exchanged, so the base is exposed and a root, and the rest of the blossom
 //! is gone.
 ghost use Rattle.std.specs.Prelude.{◌≡◌, ◌<◌, length, IfOk, OnOk, Some};
-ghost use Rattle.counting.specs.Common.{Set};
+ghost use Rattle.graph_core.specs.from_counting.Common.{Set};
 ghost use Rattle.graph_core.specs.Common.{Graph};
 ghost use Rattle.match_search.specs.Common.{HoldsMatching, IsSized, MayBeExposed, ClosesForest, ExposesOnly, IsClosed, IsMateStep, AreAlike};
 
@@ -21,8 +21,8 @@ use crate::blossom::{Blossom, close, open};
 use crate::growing::{Adjacent, Growth, grow_forest};
 use crate::instance::Instance;
 use crate::paths::paths_to;
+use graph_core::vset_core::VSet;
 use std::alloc::{AllocError as Memory, Global};
-use vset_core::VSet;
 
 /// Augments the matching with these mates, or returns a frame, which shows that none is larger; the
 /// mates may then be those of another matching of the same size. The exposed vertices are searched

@@ -2,7 +2,7 @@
 //! augmented until a step returns a frame instead. Each step leaves two fewer exposed vertices, so
 //! there are at most n / 2 of them.
 ghost use Rattle.std.specs.Prelude.{◌≡◌, ◌≢◌, ℕ, ◌+◌, ◌<◌, ◌≤◌, ◌==◌, ◌&&◌, not, false, true, length, IfOk, OnOk};
-ghost use Rattle.counting.specs.Common.{Within, mem, Set};
+ghost use Rattle.graph_core.specs.from_counting.Common.{Within, mem, Set};
 ghost use Rattle.graph_core.specs.Common.{Graph, IsGraph, AreRows, graph_of, IsMatching};
 ghost use Rattle.match_search.specs.Common.{HasMates, HoldsMatching, marks, numbers, IsGraphRow, HasFrame, IsBest, MayBeExposed, AreAlike};
 
@@ -12,9 +12,9 @@ use crate::augment::augment_once;
 use crate::instance::{Instance, instance_of};
 use crate::marked::marks_of;
 use crate::mates::{join, mates_of};
+use graph_core::vset_core::{MOST_VERTICES, VSet};
 use graph_core::{Ends, MultiGraph};
 use std::alloc::{AllocError as Memory, Global};
-use vset_core::{MOST_VERTICES, VSet};
 
 /// The marks of a maximum matching, and its frame.
 #[derive(Drop)]

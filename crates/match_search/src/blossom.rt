@@ -3,7 +3,7 @@
 //! a perfect matching, so the blossom may be shrunk to its base: a matching of the smaller graph
 //! meets it at one vertex, and is completed round the cycle from there.
 ghost use Rattle.std.specs.Prelude.{◌≡◌, ◌≢◌, ℕ, ◌+◌, ◌-◌, ◌<◌, ◌≤◌, true, length, suc, IfOk, Some};
-ghost use Rattle.counting.specs.Common.{Within, Set, mem};
+ghost use Rattle.graph_core.specs.from_counting.Common.{Within, Set, mem};
 ghost use Rattle.graph_core.specs.Common.{Graph};
 ghost use Rattle.match_search.specs.Common.{AreClosingPaths, ExposesOnly, HoldsBlossom, IsCompleted, MayOpen, IsAugmented, IsClosed, second_start, IsLastMeeting, numbers, part};
 
@@ -11,8 +11,8 @@ use crate::cycle::{Meeting, cycle_vertices, last_meeting, members_of};
 use crate::instance::Instance;
 use crate::mates::{clear, expose, flip, join, pair_round};
 use crate::paths::Paths;
+use graph_core::vset_core::{MOST_VERTICES, VSet};
 use std::alloc::{AllocError as Memory, Global};
-use vset_core::{MOST_VERTICES, VSet};
 
 /// A blossom: the vertices of an odd cycle in order, from place 1 on, with the base first, and
 /// their set. Place 0 is unused.

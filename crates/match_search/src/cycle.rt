@@ -1,11 +1,11 @@
 //! The odd cycle that an edge between two outer vertices closes with their paths, which meet.
 ghost use Rattle.std.specs.Prelude.{◌≡◌, ◌≢◌, ℕ, ◌+◌, ◌-◌, ◌<◌, ◌≤◌, length, slice_index, IfOk, Some, None};
-ghost use Rattle.counting.specs.Common.{Within, is_odd, mem};
+ghost use Rattle.graph_core.specs.from_counting.Common.{Within, is_odd, mem};
 ghost use Rattle.match_search.specs.Common.{every_other, listed, numbers, IsLastMeeting};
 
 use crate::rows::{find_in, write_part, write_part_back};
+use graph_core::vset_core::{MOST_VERTICES, VSet};
 use std::alloc::{AllocError as Memory, Global};
-use vset_core::{MOST_VERTICES, VSet};
 
 /// A place of one part of a row and a place of another.
 #[derive(Clone, Copy, Debug, PartialEq, Eq, Drop)]
@@ -77,7 +77,7 @@ pub fn members_of(row: &[u32]) -> VSet
     members
 }
 
-#[tactic(auto, using(counting::proofs::Odd::is_odd_remainder))]
+#[tactic(auto, using(graph_core::proofs::Parity::is_odd_remainder))]
 fn is_odd_place(i: usize) -> bool
     ensures { result ≡ is_odd i }
 {

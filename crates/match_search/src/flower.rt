@@ -4,13 +4,13 @@
 //! after it on the two. Most often the base is one of the two outer vertices, so the path to the
 //! other is followed first.
 ghost use Rattle.std.specs.Prelude.{◌≡◌, ◌↔◌, ℕ, ◌<◌, true, cond, length, IfSome, ◌∷◌, []};
-ghost use Rattle.counting.specs.Common.{Set, mem};
+ghost use Rattle.graph_core.specs.from_counting.Common.{Set, mem};
 ghost use Rattle.graph_core.specs.Common.{Graph, missed_count};
 ghost use Rattle.match_search.specs.Common.{ClosesForest, HoldsFlower, HoldsForest, IsLastIn, IsOuterOf, MeetsSet, numbers};
 
 use crate::alternating::AlternatingForest;
 use crate::growing::Adjacent;
-use vset_core::VSet;
+use graph_core::vset_core::VSet;
 
 /// The vertices of a blossom and its base.
 #[derive(Clone, Copy, Drop)]

@@ -2,13 +2,13 @@
 //! vertices, or each edge at an outer vertex leads to an inner one. In the second case the matching
 //! is maximum: if the inner vertices are deleted, each outer vertex is a component by itself.
 ghost use Rattle.std.specs.Prelude.{◌≡◌, ℕ, IfSome, IfNone, []};
-ghost use Rattle.counting.specs.Common.{Set, Within};
+ghost use Rattle.graph_core.specs.from_counting.Common.{Set, Within};
 ghost use Rattle.graph_core.specs.Common.{Graph};
 ghost use Rattle.match_search.specs.Common.{GrowsForest, IsGrownForest, IsMember};
 
 use crate::alternating::AlternatingForest;
 use crate::instance::Instance;
-use vset_core::{MOST_VERTICES, VSet};
+use graph_core::vset_core::{MOST_VERTICES, VSet};
 
 /// Two vertices that an edge joins.
 #[derive(Clone, Copy, Debug, PartialEq, Eq, Drop)]

@@ -7,12 +7,12 @@
 //! The rows of the neighbours stay as they are, and a shrinking is undone by putting back what was
 //! there.
 ghost use Rattle.std.specs.Prelude.{◌≡◌, ◌≢◌, ℕ, ◌+◌, ◌-◌, ◌<◌, ◌≤◌, true, false, length, IfOk, ◌∷◌, [], ◌↔◌};
-ghost use Rattle.counting.specs.Common.{Within, Set, mem, item};
+ghost use Rattle.graph_core.specs.from_counting.Common.{Within, Set, mem, item};
 ghost use Rattle.graph_core.specs.Common.{Graph, IsGraph, AreRows};
 ghost use Rattle.match_search.specs.Common.{AreNear, IsInstance, IsGathered, IsPutBack, IsShrinking, IsUnionOf, IsUnshrunk};
 
+use graph_core::vset_core::{MOST_VERTICES, VSet};
 use std::alloc::{AllocError as Memory, Global};
-use vset_core::{MOST_VERTICES, VSet};
 
 /// The graph: for each vertex its members, which are the vertices that were merged into it by
 /// shrinkings, and the neighbours that these had before any shrinking; the vertices to which

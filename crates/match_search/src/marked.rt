@@ -1,14 +1,14 @@
 //! From the mates of a matching back to its edges: of parallel edges the least is marked.
 ghost use Rattle.std.specs.Prelude.{◌≡◌, ◌+◌, ◌<◌, ◌==◌, length, IfOk};
-ghost use Rattle.counting.specs.Common.{Set};
+ghost use Rattle.graph_core.specs.from_counting.Common.{Set};
 ghost use Rattle.graph_core.specs.Common.{graph_of};
 ghost use Rattle.match_search.specs.Common.{HasMates, marks, numbers, IsGraphRow};
 
 use crate::best::is_addable;
 use crate::rows::{falses, mark_place};
 use graph_core::Ends;
+use graph_core::vset_core::VSet;
 use std::alloc::{AllocError as Memory, Global};
-use vset_core::VSet;
 
 /// The marks of a matching with these mates: for each pair the least edge that joins it.
 pub fn marks_of(alloc: Global, n: u32, ends: &[Ends], mate: &[u32]) -> Result<Vec<bool>, Memory>

@@ -1,6 +1,6 @@
 //! Matchings by mates: for each vertex the other end of its edge, or 0 if it is exposed.
 ghost use Rattle.std.specs.Prelude.{◌≡◌, ℕ, ◌+◌, ◌-◌, ◌^◌, ◌<◌, ◌≤◌, cond, length, IfOk};
-ghost use Rattle.counting.specs.Common.{Within, Set};
+ghost use Rattle.graph_core.specs.from_counting.Common.{Within, Set};
 ghost use Rattle.graph_core.specs.Common.{IsMatching, graph_of};
 ghost use Rattle.match_search.specs.Common.{AreEnds, IsGraphRow, every_other, next, HasMates, NamesMates, with_mate, with_pair, flipped_mates, cleared_mates, paired_round, marks, numbers, part};
 

@@ -3,7 +3,7 @@
 //! A vertex u is deleted from a graph with a matching by mates, and its mate is exposed. The last
 //! frame of G - u says which vertices some maximum matching of G - u misses.
 ghost use Rattle.std.specs.Prelude.{◌≡◌, ℕ, ◌+◌, ◌-◌, ◌<◌, ◌≤◌, ◌==◌, ◌&&◌, true, length, IfOk, OnOk, Some, ◌∷◌, []};
-ghost use Rattle.counting.specs.Common.{count, mem, Set, singleton, union};
+ghost use Rattle.graph_core.specs.from_counting.Common.{count, mem, Set, singleton, union};
 ghost use Rattle.graph_core.specs.Common.{Graph};
 ghost use Rattle.match_search.specs.Common.{HoldsMatching, IsMissableRow, IsSized, MayBeExposed, ServesRows, numbers, AreAlike};
 
@@ -12,8 +12,8 @@ use crate::best::last_frame;
 use crate::instance::Instance;
 use crate::outer::outer_from;
 use crate::row_space::RowSpace;
+use graph_core::vset_core::{MOST_VERTICES, VSet};
 use std::alloc::{AllocError as Memory, Global};
-use vset_core::{MOST_VERTICES, VSet};
 
 // How many vertices of a set are exposed.
 fn exposed_count(left: VSet, mate: &[u32]) -> usize

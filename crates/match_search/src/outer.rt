@@ -6,7 +6,7 @@
 //! wanted, so no blossom is expanded again. If a blossom contains all vertices that are left, each
 //! of them is outer, and the search ends.
 ghost use Rattle.std.specs.Prelude.{◌≡◌, length};
-ghost use Rattle.counting.specs.Common.{Set};
+ghost use Rattle.graph_core.specs.from_counting.Common.{Set};
 ghost use Rattle.graph_core.specs.Common.{Graph, missed_count};
 ghost use Rattle.match_search.specs.Common.{IsSized, GrowsForest, HasOuter, HoldsRooted, AreAlike};
 
@@ -14,7 +14,7 @@ use crate::alternating::AlternatingForest;
 use crate::flower::{Flower, expose_all, flower_of};
 use crate::growing::{Growth, grow_forest};
 use crate::instance::Instance;
-use vset_core::VSet;
+use graph_core::vset_core::VSet;
 
 /// The outer vertices of the last forest, if the matching with these mates misses only the root.
 /// The mates are meaningless afterwards. All shrinkings are undone at the end. Takes no memory: the

@@ -1,14 +1,14 @@
 //! The paths of an alternating forest: the path from the root to an outer vertex, read from the
 //! vertex up to the root.
 ghost use Rattle.std.specs.Prelude.{◌≡◌, ℕ, ◌+◌, ◌<◌, ◌≤◌, true, length, suc, IfOk};
-ghost use Rattle.counting.specs.Common.{Set, mem};
+ghost use Rattle.graph_core.specs.from_counting.Common.{Set, mem};
 ghost use Rattle.graph_core.specs.Common.{Graph};
 ghost use Rattle.match_search.specs.Common.{AreClosingPaths, ClosesForest, HoldsForest, with_mate, numbers};
 
 use crate::alternating::AlternatingForest;
 use crate::growing::Adjacent;
+use graph_core::vset_core::MOST_VERTICES;
 use std::alloc::{AllocError as Memory, Global};
-use vset_core::MOST_VERTICES;
 
 /// Writes two numbers of a row, the second of them at a place and the first before it.
 fn write_pair(row: &mut [u32], place: usize, first: u32, second: u32)

@@ -2,13 +2,13 @@
 //! that are exposed before any row is searched. So a row takes no memory, and looks for its exposed
 //! vertices among few.
 ghost use Rattle.std.specs.Prelude.{◌≡◌, ◌≢◌, ℕ, ◌+◌, ◌<◌, ◌≤◌, true, length, IfOk};
-ghost use Rattle.counting.specs.Common.{mem};
+ghost use Rattle.graph_core.specs.from_counting.Common.{mem};
 ghost use Rattle.match_search.specs.Common.{ServesRows, numbers, with_mate};
 
 use crate::alternating::{AlternatingForest, exposed_in};
 use crate::mates::expose;
+use graph_core::vset_core::{MOST_VERTICES, VSet};
 use std::alloc::{AllocError as Memory, Global};
-use vset_core::{MOST_VERTICES, VSet};
 
 /// A forest and a row of mates, whose contents are ignored, and a set that contains the exposed
 /// vertices.

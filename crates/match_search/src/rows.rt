@@ -1,7 +1,7 @@
 //! Rows of numbers and of marks: parts of a row copied to another, the place of a number,
 //! and marked places.
 ghost use Rattle.std.specs.Prelude.{◌≡◌, ◌≢◌, ℕ, ◌+◌, ◌-◌, ◌<◌, ◌≤◌, length, slice_index, IfOk, Some, None, All, ◌||◌, false, true};
-ghost use Rattle.counting.specs.Common.{mem, put};
+ghost use Rattle.graph_core.specs.from_counting.Common.{mem, put};
 ghost use Rattle.match_search.specs.Common.{marks};
 
 use std::alloc::{AllocError as Memory, Global};

@@ -1,7 +1,7 @@
 -- A vertex set of a bipartite graph and a perfect matching: the set's surplus of vertices on one
 -- side equals the surplus of matching edges that leave it from that side. So a tight set has one
 -- more vertex of one side, and all edges of its cut leave it there.
-use Rattle.counting.proofs.Common.{◌≡◌, ℕ, ◌+◌, Bool, true, false, ap, arith, ◌&&◌, ◌||◌, not, inl, inr, cases_eq, and_parts, count_zero, total_congr, total_add, total_none, and_fails_second, bit, count, Within, Set, none, minus, meet, complement}
+use Rattle.graph_core.proofs.from_counting.Common.{◌≡◌, ℕ, ◌+◌, Bool, true, false, ap, arith, ◌&&◌, ◌||◌, not, inl, inr, cases_eq, and_parts, count_zero, total_congr, total_add, total_none, and_fails_second, bit, count, Within, Set, none, minus, meet, complement}
 use Rattle.barrier_kit.proofs.Common.{inner, loop_free}
 use Rattle.graph_core.proofs.Common.{IsSide, IsCovered, Graph, size, first_end, second_end, IsGraph, connects, in_cut, edges_in_cut, IsPerfect, CutIsTight, covered_perfect, parity}
 

@@ -1,7 +1,7 @@
 -- Tight shores of a bipartite covered graph are the vertex sets that no arc of the digraph of a
 -- perfect matching leaves, but from one vertex a of the side: then only the edge of the matching
 -- at a leaves the set from the side, and none from the other.
-use Rattle.counting.proofs.Common.{◌≡◌, ◌≢◌, ℕ, ◌+◌, ◌≤◌, Bool, true, false, cond, ◌==◌, refl, sym, ap, ◌∙◌, arith, ◌&&◌, ◌||◌, not, eq-eqb, ne_eqb, inl, inr, ◌⊎◌, cases_eq, cases_Bool, true≢false, both_ways, and_parts, and_from, false_from_ne_true, not-true, and_right, member_count, two_members, some_true, true_some, total_add, total_le, total_none, bit, count, Within, Set, none, minus, meet}
+use Rattle.graph_core.proofs.from_counting.Common.{◌≡◌, ◌≢◌, ℕ, ◌+◌, ◌≤◌, Bool, true, false, cond, ◌==◌, refl, sym, ap, ◌∙◌, arith, ◌&&◌, ◌||◌, not, eq-eqb, ne_eqb, inl, inr, ◌⊎◌, cases_eq, cases_Bool, true≢false, both_ways, and_parts, and_from, false_from_ne_true, not-true, and_right, member_count, two_members, some_true, true_some, total_add, total_le, total_none, bit, count, Within, Set, none, minus, meet}
 use Rattle.graph_core.proofs.Common.{IsSide, IsCovered, Graph, size, first_end, second_end, IsGraph, has_ends, IsPerfect, IsTight, adjacent, tight_from_cut, perfect_matching, matching_apart, adjacent-edge, adjacent_from, has_ends-cases}
 use Rattle.matching_digraph.proofs.Balance.{balance, crossing, leaves_left, leaves_right, none_right}
 use Rattle.matching_digraph.specs.Digraph.{NoArcLeaves, arc, are_mates, step_past}

@@ -1,7 +1,7 @@
 -- The two ends of a row of a matching.
 -- Stated by: matching_digraph.
 use Rattle.std.specs.Prelude.{ℕ, Bool, ◌==◌, ◌&&◌, ◌||◌}
-use Rattle.match_core.specs.declared.matching.MatchRow.{MatchRow}
+use Rattle.barrier_kit.specs.from_match_core.declared.matching.MatchRow.{MatchRow}
 
 -- the row joins u and v
 abbrev pub row_joins : ℕ → ℕ → MatchRow → Bool

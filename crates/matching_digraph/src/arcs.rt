@@ -1,16 +1,16 @@
 //! The arcs of the digraph of a matching, as rows of sets.
 ghost use Rattle.std.specs.Prelude.{◌≡◌, ◌≤◌, ◌&&◌, ◌||◌, not, ℕ, length, IfOk, All};
 ghost use Rattle.std.specs.List.{list_any};
-ghost use Rattle.counting.specs.Common.{Within, item, mem, none};
+ghost use Rattle.graph_core.specs.from_counting.Common.{Within, item, mem, none};
 ghost use Rattle.graph_core.specs.Common.{adjacent};
-ghost use Rattle.match_core.specs.Common.{IsOf, edges_of};
+ghost use Rattle.barrier_kit.specs.from_match_core.Common.{IsOf, edges_of};
 ghost use Rattle.matching_digraph.specs.Digraph.{AreArcs};
 ghost use Rattle.matching_digraph.specs.MatchedPairs.{row_joins};
 
+use barrier_kit::match_core::Matching;
 use graph_core::MultiGraph;
-use match_core::Matching;
+use graph_core::vset_core::{MOST_VERTICES, VSet, add_arc};
 use std::alloc::{AllocError as Memory, Global};
-use vset_core::{MOST_VERTICES, VSet, add_arc};
 
 // The neighbours of a vertex outside the side; none for a vertex of the side.
 fn outer_row(g: &MultiGraph, side: VSet, v: u32) -> VSet

@@ -1,6 +1,6 @@
 //! The laws on tight shores of bipartite graphs, each the contract of a function that does nothing.
 ghost use Rattle.std.specs.Prelude.{◌≡◌, ◌≢◌, ◌↔◌, ◌⊎◌, ℕ, true, false, List};
-ghost use Rattle.counting.specs.Common.{Within, Set, complement, none};
+ghost use Rattle.graph_core.specs.from_counting.Common.{Within, Set, complement, none};
 ghost use Rattle.graph_core.specs.Common.{IsCovered, Graph, IsGraph, IsPerfect, HasOnlyTrivialTightCuts, IsTight, Walk, IsSide};
 ghost use Rattle.matching_digraph.specs.Digraph.{NoArcLeaves, NoneParts, Spans, arc, are_mates, reached_past, step_past};
 

@@ -20,4 +20,6 @@ mod digraph;
 mod flood;
 pub mod laws;
 
+// Passed on to the crates above.
+pub use barrier_kit;
 pub use digraph::Digraph;

@@ -2,9 +2,9 @@
 -- or breaks the format at one line.
 use Rattle.std.proofs.Common.{◌≡◌, ◌∙◌, inl, inr, ℕ, ◌≤◌, List, [], ◌∷◌, ◌++◌, length, ap, sym, arith}
 use Rattle.outside.specs.Common.{most_bytes}
-use Rattle.line_text.proofs.ExactlyOne.{exactly_one, StandsAlone-stands}
-use Rattle.line_text.specs.Common.{FirstFault}
-use Rattle.line_text.specs.declared.faults.FaultKind.{FaultKind}
+use Rattle.graph_core.proofs.from_line_text.ExactlyOne.{exactly_one, StandsAlone-stands}
+use Rattle.graph_core.specs.from_line_text.Common.{FirstFault}
+use Rattle.graph_core.specs.from_line_text.declared.faults.FaultKind.{FaultKind}
 use Rattle.graph_text.specs.Common.{NamedGraph, either_version}
 use Rattle.graph6_text.specs.Common.{graph6_of}
 use Rattle.mcg6_encoder.specs.Files.{IsBadFile, IsEncoded, IsOutside}

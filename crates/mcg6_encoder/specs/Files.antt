@@ -2,10 +2,10 @@
 -- Stated by: mcg6_encoder. Used by: mcg6_top.
 use Rattle.std.specs.Prelude.{◌≡◌, ◌⊎◌, ℕ, ◌-◌, ◌<◌, ◌≤◌, List, [], ◌∷◌, ◌++◌, length, take, slice_index_or}
 use Rattle.outside.specs.Common.{most_bytes}
-use Rattle.line_text.specs.Common.{Stands, FirstFault, lines_of}
+use Rattle.graph_core.specs.from_line_text.Common.{Stands, FirstFault, lines_of}
 use Rattle.graph_text.specs.Common.{NamedGraph, either_version}
 use Rattle.graph6_text.specs.Common.{graph6_of, ReadsBack}
-use Rattle.line_text.specs.declared.faults.FaultKind.TheVariants.{Limit}
+use Rattle.graph_core.specs.from_line_text.declared.faults.FaultKind.TheVariants.{Limit}
 use Rattle.mcg6_reader.specs.declared.ending.BadLine.{BadLine}
 use Rattle.mcg6_encoder.specs.declared.ending.EncodeEnding.{EncodeEnding}
 use Rattle.mcg6_encoder.specs.declared.ending.EncodeEnding.TheVariants.{Encoded, Bad, ReadFault, WriteFault, Memory}

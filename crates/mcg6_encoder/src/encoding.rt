@@ -9,7 +9,7 @@ use crate::ending::EncodeEnding;
 use crate::lines::{outside_at, too_long};
 use crate::reading::{Unread, read_file};
 use crate::text::graph6_line;
-use line_text::TextFault;
+use graph_core::line_text::TextFault;
 use outside::{Sink, Source, emit};
 use std::alloc::Global;
 

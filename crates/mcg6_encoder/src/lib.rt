@@ -24,8 +24,11 @@ mod reading;
 mod simple;
 mod text;
 
+// Passed on to the crates above.
 pub use encoding::encode;
 pub use ending::EncodeEnding;
 pub use laws::one_encoding_law;
+pub use mcg6_reader;
+pub use outside;
 pub use simple::simple_beneath;
 pub use text::graph6_line;

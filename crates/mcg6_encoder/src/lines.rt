@@ -1,10 +1,10 @@
 //! A line of a file by its number, and the report on a bad file.
 ghost use Rattle.std.specs.Prelude.{◌≡◌, IfOk};
-ghost use Rattle.line_text.specs.Common.{FirstFault};
+ghost use Rattle.graph_core.specs.from_line_text.Common.{FirstFault};
 ghost use Rattle.graph_text.specs.Common.{either_version};
 ghost use Rattle.mcg6_encoder.specs.Files.{IsOutside, NamesTooLong, kept_line};
 
-use line_text::{FaultKind, split_line};
+use graph_core::line_text::{FaultKind, split_line};
 use mcg6_reader::BadLine;
 use std::alloc::{AllocError as Memory, Global};
 

@@ -1,15 +1,15 @@
 //! The graph6 text of a graph file.
 ghost use Rattle.std.specs.Prelude.{◌≡◌, ◌<◌, ◌-◌, ◌^◌, ◌∷◌, ◌++◌, [], IfOk, IfErr, length};
-ghost use Rattle.line_text.specs.Common.{IsFirstFault};
+ghost use Rattle.graph_core.specs.from_line_text.Common.{IsFirstFault};
 ghost use Rattle.graph_text.specs.Common.{either_version};
 ghost use Rattle.graph6_text.specs.Common.{graph6_of};
 ghost use Rattle.mcg6_encoder.specs.Files.{IsEncoded};
 
 use crate::simple::simple_beneath;
 use graph_core::MultiGraph;
+use graph_core::line_text::TextFault;
 use graph_text::read_any;
 use graph6_text::write_graph6;
-use line_text::TextFault;
 use std::alloc::{AllocError as Memory, Global};
 
 // The graph6 text of the underlying simple graph, with a line feed.

@@ -10,10 +10,10 @@
 //! that is not UTF-8, which is then shown.
 #![tactic(auto)]
 
-use arguments::read_arguments;
+use front_words::arguments::read_arguments;
 use front_words::{is_quiet, say_unread_arguments};
+use mcg6_front_top::mcg6_top::CommandLine;
 use mcg6_front_top::{ListFrontEnding, run_list_front};
-use mcg6_top::CommandLine;
 use outside::{DirShelf, Explain, FailureReason, InSource, LineSink, OutSink, Shelf};
 use std::fs;
 use std::process::ExitCode;

@@ -2,7 +2,7 @@
 -- What is left of a list from a place on is the line at that place and what is left after it.
 use Rattle.std.proofs.Common.{◌≡◌, ℕ, ◌+◌, ◌<◌, List, ◌++◌, length, drop, get_or, ap, subst, sym, add-one, drop-cons}
 use Rattle.front_words.specs.ListMessages.{bad_line_text}
-use Rattle.mcg6_reader.specs.declared.ending.BadLine.{BadLine}
+use Rattle.mcg6_top.specs.from_mcg6_reader.declared.ending.BadLine.{BadLine}
 use Rattle.mcg6_front_top.specs.Words.{program, skipped_words}
 
 skipped-first : (skipped : List BadLine) (i : ℕ) (d : BadLine) → i < length skipped →

@@ -8,14 +8,14 @@ use Rattle.std.proofs.Math.Bool.{or-false}
 use Rattle.std.proofs.lemmas.Option.{same_Some}
 use Rattle.std.proofs.lemmas.Slice.Eq.{bytes_eq-Decides}
 use Rattle.line_text.specs.Common.{number_of}
-use Rattle.decomposer.specs.Common.{order_named}
-use Rattle.decomposer.specs.declared.orders.NamedOrder.TheVariants.{First}
-use Rattle.mcg6_lines.specs.declared.query.Property.TheVariants.{Bricks, Braces}
-use Rattle.mcg6_lines.specs.declared.query.Query.{Query}
-use Rattle.mcg6_lines.specs.declared.query.Query.TheVariants.{Kinds, Leaves, Elementary, Graph, Select}
+use Rattle.mcg6_top.specs.from_decomposer.Common.{order_named}
+use Rattle.mcg6_top.specs.from_decomposer.declared.orders.NamedOrder.TheVariants.{First}
+use Rattle.mcg6_top.specs.from_mcg6_lines.declared.query.Property.TheVariants.{Bricks, Braces}
+use Rattle.mcg6_top.specs.from_mcg6_lines.declared.query.Query.{Query}
+use Rattle.mcg6_top.specs.from_mcg6_lines.declared.query.Query.TheVariants.{Kinds, Leaves, Elementary, Graph, Select}
 use Rattle.mcg6_top.specs.Common.{ListCommand, asks_skip, command_if, command_of, command_or, list_command_of, command_with, counted_property, encode_of, leaves_named, may_skip, pair_command, property_named, query_named, select_named}
-use Rattle.command_table.specs.Rows.{fit_optional, is_counted, matches_a_row, is_one_of}
-use Rattle.command_table.specs.Table.{counted_properties, file, list_rows, orders, properties, skip_file}
+use Rattle.front_words.specs.from_command_table.Rows.{fit_optional, is_counted, matches_a_row, is_one_of}
+use Rattle.front_words.specs.from_command_table.Table.{counted_properties, file, list_rows, orders, properties, skip_file}
 
 -- the word of an order
 named_or : {X : Type 0} (p q r : X) (a b c : Bool) → is_some (if a then Some p else (if b then Some q else (if c then Some r else None))) ≡ ((a || (b || (c || false))) || false)

@@ -1,9 +1,9 @@
 -- What is said of each ending.
 -- Stated by: mcg6_front_top.
 use Rattle.std.specs.Prelude.{ℕ, ◌==◌, List, [], ◌∷◌, ◌++◌, codes, Bool, if◌then◌else◌, Option, Some, None}
-use Rattle.mcg6_reader.specs.declared.ending.BadLine.{BadLine}
-use Rattle.mcg6_reader.specs.declared.ending.Ending.{Ending}
-use Rattle.mcg6_reader.specs.declared.ending.Ending.TheVariants.{Done, Bad, ReadFault, WriteFault, Memory}
+use Rattle.mcg6_top.specs.from_mcg6_reader.declared.ending.BadLine.{BadLine}
+use Rattle.mcg6_top.specs.from_mcg6_reader.declared.ending.Ending.{Ending}
+use Rattle.mcg6_top.specs.from_mcg6_reader.declared.ending.Ending.TheVariants.{Done, Bad, ReadFault, WriteFault, Memory}
 use Rattle.mcg6_encoder.specs.declared.ending.EncodeEnding.{EncodeEnding}
 use Rattle.mcg6_encoder.specs.declared.ending.EncodeEnding.TheVariants as encoding
 use Rattle.mcg6_top.specs.Common.{text_of}
@@ -12,7 +12,7 @@ use Rattle.mcg6_top.specs.declared.status.RunEnd.TheVariants.{Answered, Encoded}
 use Rattle.mcg6_front_top.specs.declared.clues.Clues.{Clues}
 use Rattle.mcg6_front_top.specs.declared.ending.Message.{Message}
 use Rattle.mcg6_front_top.specs.declared.ending.Message.TheVariants as message
-use Rattle.refusals.specs.declared.file_kind.FileKind.TheVariants.{Graph}
+use Rattle.front_words.specs.from_refusals.declared.file_kind.FileKind.TheVariants.{Graph}
 use Rattle.front_words.specs.ListMessages.{bad_line_text, unread_list_text}
 use Rattle.front_words.specs.Messages.{bad_file_text, unread_text}
 use Rattle.front_words.specs.Unmatched.{unmatched_text}

@@ -1,6 +1,6 @@
 //! What is known of the faults of a run.
 
-use outside::FailureReason;
+use mcg6_encoder::outside::FailureReason;
 
 /// What is known of the faults of a run.
 #[derive(Clone, Copy)]

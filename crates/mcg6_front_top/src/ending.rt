@@ -5,8 +5,8 @@ ghost use Rattle.mcg6_front_top.specs.Words.{message_words};
 
 use crate::clues::Clues;
 use crate::speaking::{say_ending, say_lost};
+use mcg6_encoder::outside::Sink;
 use mcg6_top::{CommandLine, ListStatus, RunEnd};
-use outside::Sink;
 
 /// What is to be said of a run, for a person.
 #[derive(Drop)]

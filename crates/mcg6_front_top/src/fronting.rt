@@ -6,8 +6,8 @@ use crate::clues::Clues;
 use crate::ending::{ListFrontEnding, Message};
 use crate::speaking::status_in;
 use front_words::{Program, answer, answer_of};
+use mcg6_encoder::outside::{FailureReason, Outlet, Source};
 use mcg6_top::{CommandLine, ListStatus, RunEnd, run_to_ending};
-use outside::{FailureReason, Outlet, Source};
 use std::alloc::Global;
 
 // What is to be said of an answer: that it could not be written whole, unless it is to be quiet or

@@ -1,7 +1,7 @@
 //! The law of the table of commands. It is the contract of a function that does nothing.
 ghost use Rattle.std.specs.Prelude.{◌≡◌, ℕ, List, is_some};
-ghost use Rattle.command_table.specs.Rows.{matches_a_row};
-ghost use Rattle.command_table.specs.Table.{list_rows};
+ghost use Rattle.front_words.specs.from_command_table.Rows.{matches_a_row};
+ghost use Rattle.front_words.specs.from_command_table.Table.{list_rows};
 ghost use Rattle.mcg6_top.specs.Common.{command_of};
 
 /// The rows of the table, of which the usage is made, are exactly the words that ask for something

@@ -22,6 +22,8 @@ mod laws;
 mod skipping;
 mod speaking;
 
+// Passed on to the crates above.
 pub use ending::{ListFrontEnding, Message};
 pub use fronting::run_list_front;
 pub use laws::list_table_law;
+pub use mcg6_top;

@@ -5,8 +5,8 @@ ghost use Rattle.mcg6_front_top.specs.Words.{program, skipped_words};
 
 use crate::speaking::PROGRAM;
 use front_words::{Said, say_bad_line};
-use mcg6_reader::BadLine;
-use outside::Sink;
+use mcg6_encoder::mcg6_reader::BadLine;
+use mcg6_encoder::outside::Sink;
 
 // Says of a bad line its number, what is wrong with it, and the line.
 fn say_one<E: Sink>(errors: &mut E, found: &BadLine) -> Said

@@ -7,15 +7,15 @@ ghost use Rattle.mcg6_front_top.specs.Words.{bad_graph_words, beginning_of, file
 
 use crate::clues::Clues;
 use crate::skipping::say_skipped;
+use front_words::refusals::FileKind;
 use front_words::{
     BadFile, Program, Said, say_bad_file, say_bad_line, say_bytes, say_unmatched, say_unread,
     say_unread_list,
 };
 use mcg6_encoder::EncodeEnding;
-use mcg6_reader::{BadLine, Ending};
+use mcg6_encoder::mcg6_reader::{BadLine, Ending};
+use mcg6_encoder::outside::{Sink, SinkFailed};
 use mcg6_top::{CommandLine, ListEnd, ListStatus, RunEnd, status_of};
-use outside::{Sink, SinkFailed};
-use refusals::FileKind;
 
 /// The name of the program.
 pub const PROGRAM: &str = "mcg6";

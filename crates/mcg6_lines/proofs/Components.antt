@@ -1,9 +1,9 @@
 -- An elementary component as a graph of its own is simple: the new numbers of two vertices differ,
 -- so two edges with the same ends would be two edges of the graph with the same ends.
-use Rattle.counting.proofs.Common.{◌≡◌, ℕ, ◌+◌, ◌≤◌, ◌<◌, Bool, true, inl, inr, ◌==◌, ◌&&◌, ◌||◌, List, [], ◌++◌, length, drop, get_or, sym, ap, ap₂, ◌∙◌, arith, eq-eqb, ne_eqb, All, Some, slice_get, subst, cond, drop_more, All-get_or, slice_get_within, Within, and_parts, at_le_total, bit, both_ways, cases_Bool, cases_eq, count, count_mem_length, count_up, false_from_ne_true, get_or_from_slice_get, IsRisingIn, length-rising_list, length-within, list-from_test, mem, mem-within, none, rank_once, Set, set-narrower}
+use Rattle.allowed_edges.proofs.from_counting.Common.{◌≡◌, ℕ, ◌+◌, ◌≤◌, ◌<◌, Bool, true, inl, inr, ◌==◌, ◌&&◌, ◌||◌, List, [], ◌++◌, length, drop, get_or, sym, ap, ap₂, ◌∙◌, arith, eq-eqb, ne_eqb, All, Some, slice_get, subst, cond, drop_more, All-get_or, slice_get_within, Within, and_parts, at_le_total, bit, both_ways, cases_Bool, cases_eq, count, count_mem_length, count_up, false_from_ne_true, get_or_from_slice_get, IsRisingIn, length-rising_list, length-within, list-from_test, mem, mem-within, none, rank_once, Set, set-narrower}
 use Rattle.graph_core.proofs.Common.{components, Graph, HasPerfect, IsSimple, first_end, has_ends, has_perfect, has_perfect_found, has_perfect_says, inside, is_allowed, joins, second_end, size}
 use Rattle.graph6_text.proofs.DistinctPairs.{simple_from_distinct}
-use Rattle.separation_kit.proofs.PairShores.{components-rise}
+use Rattle.leaf_kinds.proofs.from_separation_kit.PairShores.{components-rise}
 use Rattle.mcg6_lines.specs.Elementary.{allowed_subgraph, component_graph, component_line, component_lines, elementary_lines, elementary_parts, number_in}
 use Rattle.mcg6_lines.proofs.TakenEdges.{distinct_taken}
 

@@ -1,6 +1,6 @@
 -- A number in decimal is its tenth and then its last digit.
 -- Idea: the same holds of its digits in base 10, of which the decimal text is the image.
-use Rattle.counting.proofs.Common.{◌≡◌, ℕ, ◌+◌, ◌/◌, ◌%◌, ◌^◌, ◌≤◌, ◌<◌, List, [], ◌∷◌, ◌++◌, map, sym, ap, ◌∙◌, arith, decimal, digits_of, decimal-digits_of, digits_of_step, map-append}
+use Rattle.allowed_edges.proofs.from_counting.Common.{◌≡◌, ℕ, ◌+◌, ◌/◌, ◌%◌, ◌^◌, ◌≤◌, ◌<◌, List, [], ◌∷◌, ◌++◌, map, sym, ap, ◌∙◌, arith, decimal, digits_of, decimal-digits_of, digits_of_step, map-append}
 
 pub decimal-step : (n : ℕ) → 10 ≤ n → n < 2 ^ 64 → decimal n ≡ decimal (n / 10) ++ (48 + n % 10) ∷ []
 decimal-step n h fits =

@@ -13,3 +13,6 @@ pub mod MissedVertices
 pub mod OneStanding
 pub mod OneAnswer
 pub mod DecimalSteps
+-- Passed on to the crates above: from_NAME is all that the crate NAME has in its folder of this name.
+pub use Rattle.report_text.proofs as from_report_text
+pub use Rattle.definition_laws.proofs as from_definition_laws

@@ -1,7 +1,7 @@
 -- The vertices that a matching misses and twice its edges make all vertices. So a matching is
 -- maximum if no other misses fewer vertices, and maximum matchings miss as many. A perfect matching
 -- misses none, and one that a Berge set certifies misses as many as are certified.
-use Rattle.counting.proofs.Common.{◌≡◌, ◌≤◌, ◌<◌, ◌==◌, ℕ, ◌+◌, ◌-◌, ◌*◌, ◌%◌, Bool, List, length, count_by, ap, arith, count, count_complement, count_mem_length, is_odd, odd_remainder, total_zero, none, mem, IsRisingIn, Set}
+use Rattle.allowed_edges.proofs.from_counting.Common.{◌≡◌, ◌≤◌, ◌<◌, ◌==◌, ℕ, ◌+◌, ◌-◌, ◌*◌, ◌%◌, Bool, List, length, count_by, ap, arith, count, count_complement, count_mem_length, is_odd, odd_remainder, total_zero, none, mem, IsRisingIn, Set}
 use Rattle.graph_core.proofs.Common.{Graph, HasPerfect, IsGraph, IsMatching, IsMaximum, size, missed_count, missed_edges, none_matching, perfect_matching, perfect_misses}
 use Rattle.mcg6_lines.specs.Standings.{IsDeficiency}
 

@@ -1,14 +1,14 @@
 -- The words on how a graph stands are one: its first reasons differ at most in the Berge set, its
 -- maximum matchings miss as many vertices, no reason is one of a covered graph, a kind without its
 -- shore is one, and so are the numbers of bricks and braces.
-use Rattle.counting.proofs.Common.{◌≡◌, ◌∙◌, List, ℕ, ◌++◌, Bool, refl, sym, codes, arith, decimal, same_tests, mem}
+use Rattle.allowed_edges.proofs.from_counting.Common.{◌≡◌, ◌∙◌, List, ℕ, ◌++◌, Bool, refl, sym, codes, arith, decimal, same_tests, mem}
 use Rattle.graph_core.proofs.Common.{reason-uncovered, Graph, IsMultigraph, IsReason, reason_of}
 use Rattle.graph_core.specs.declared.verdict.Kind.{Kind}
 use Rattle.graph_core.specs.declared.verdict.Kind.TheVariants.{Brace, Brick, Composite}
 use Rattle.graph_core.specs.declared.verdict.Reason.{Reason}
 use Rattle.leaf_kinds.specs.LeafKinds.{IsKind}
 use Rattle.report_text.specs.Common.{kind_word, reason_word, yes_or_no}
-use Rattle.tree_core.specs.declared.tallies.Tally.{Tally}
+use Rattle.move_laws.specs.from_tree_core.declared.tallies.Tally.{Tally}
 use Rattle.mcg6_lines.specs.KindLines.{TellsStanding, standing_words}
 use Rattle.mcg6_lines.specs.Standings.{IsStanding, IsStructured, IsUncovered, Standing, Uncovered, Structured}
 use Rattle.mcg6_lines.proofs.Counts.{same_counts}

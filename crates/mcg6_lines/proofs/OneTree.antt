@@ -1,15 +1,15 @@
 -- How many trees can an order pick? One: at each node it picks one place, and there stands one
 -- candidate. The kinds of the leaves are determined, since a quotient is bipartite or not, and so
 -- are their counts.
-use Rattle.counting.proofs.Common.{◌≡◌, ◌∙◌, ℕ, ◌+◌, ◌-◌, ◌<◌, List, length, map, Option, Some, None, refl, sym, subst, ap, arith, slice_get, option_map, suc, get_or, ext_get_or, slice_get-map, cases_lt, length-map, none-some, Within}
+use Rattle.allowed_edges.proofs.from_counting.Common.{◌≡◌, ◌∙◌, ℕ, ◌+◌, ◌-◌, ◌<◌, List, length, map, Option, Some, None, refl, sym, subst, ap, arith, slice_get, option_map, suc, get_or, ext_get_or, slice_get-map, cases_lt, length-map, none-some, Within}
 use Rattle.graph_core.proofs.Common.{Graph}
-use Rattle.tight_cuts.specs.Common.{Candidate, candidates_at, candidate_of}
-use Rattle.tight_cuts.specs.declared.candidate.Candidate.{Candidate as StoredCandidate}
+use Rattle.leaf_kinds.specs.from_tight_cuts.Common.{Candidate, candidates_at, candidate_of}
+use Rattle.leaf_kinds.specs.from_tight_cuts.declared.candidate.Candidate.{Candidate as StoredCandidate}
 use Rattle.decomposer.specs.Common.{PicksBalanced, gap, IsPickedAt, PicksShore, NamedPicks, ScriptPicks}
-use Rattle.tree_core.proofs.Common.{kept_at, merged_at, leaf_at, Shape, leaf, cut, cut_count, AreLeafKinds, IsLeafKind, IsTally, kind_at, tally_of}
-use Rattle.tree_core.specs.declared.tallies.LeafKind.{LeafKind}
-use Rattle.tree_core.specs.declared.tallies.LeafKind.TheVariants.{Brick, Brace}
-use Rattle.tree_core.specs.declared.tallies.Tally.{Tally}
+use Rattle.move_laws.proofs.from_tree_core.Common.{kept_at, merged_at, leaf_at, Shape, leaf, cut, cut_count, AreLeafKinds, IsLeafKind, IsTally, kind_at, tally_of}
+use Rattle.move_laws.specs.from_tree_core.declared.tallies.LeafKind.{LeafKind}
+use Rattle.move_laws.specs.from_tree_core.declared.tallies.LeafKind.TheVariants.{Brick, Brace}
+use Rattle.move_laws.specs.from_tree_core.declared.tallies.Tally.{Tally}
 use Rattle.decomposer.specs.declared.orders.NamedOrder.{NamedOrder}
 use Rattle.decomposer.specs.declared.orders.NamedOrder.TheVariants.{First, Last, Balanced}
 

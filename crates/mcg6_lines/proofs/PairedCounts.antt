@@ -1,6 +1,6 @@
 -- If the items of two lists are paired one to one so that partners are equal, as many items of
 -- each pass a test.
-use Rattle.counting.proofs.Common.{Bool, List, ◌∷◌, ap, arith, cond, eq-eqb, eqb-true, get_or, length, refl, suc, sym, true, ℕ, ◌+◌, ◌-◌, ◌==◌, ◌∙◌, ◌≡◌, count_by, is_count_by, bit_true, only_one, least_of, least_of_is, true_some, some_term, total-first, total_congr, total_ones, Within, bit, count, Set}
+use Rattle.allowed_edges.proofs.from_counting.Common.{Bool, List, ◌∷◌, ap, arith, cond, eq-eqb, eqb-true, get_or, length, refl, suc, sym, true, ℕ, ◌+◌, ◌-◌, ◌==◌, ◌∙◌, ◌≡◌, count_by, is_count_by, bit_true, only_one, least_of, least_of_is, true_some, some_term, total-first, total_congr, total_ones, Within, bit, count, Set}
 use Rattle.graph_core.proofs.Common.{count_over}
 
 -- the number of items that pass a test, by places counted from 1

@@ -1,6 +1,6 @@
 -- A graph that grows by the edges of another one which pass a test, each with new ends: after the
 -- first k edges it has those of them that pass, in order. Distinct pairs make it a simple graph.
-use Rattle.counting.proofs.Common.{◌≡◌, ℕ, zero, suc, ◌+◌, ◌≤◌, ◌<◌, Bool, true, false, cond, List, [], ◌∷◌, ◌++◌, length, map, refl, ap, ap₂, ◌∙◌, arith, subst, sym, if◌then◌else◌, Within, append-nil, count_le, length-map, length-rising_list, map-append, rising_list, Set}
+use Rattle.allowed_edges.proofs.from_counting.Common.{◌≡◌, ℕ, zero, suc, ◌+◌, ◌≤◌, ◌<◌, Bool, true, false, cond, List, [], ◌∷◌, ◌++◌, length, map, refl, ap, ap₂, ◌∙◌, arith, subst, sym, if◌then◌else◌, Within, append-nil, count_le, length-map, length-rising_list, map-append, rising_list, Set}
 use Rattle.graph_core.proofs.Common.{Graph, joins, size, with_edge}
 use Rattle.graph6_text.proofs.DistinctPairs.{Apart, AreDistinct, Each, distinct-append, each-append}
 

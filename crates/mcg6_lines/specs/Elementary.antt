@@ -3,7 +3,7 @@
 -- of `elementary`, which has each of them as a graph of its own.
 -- Stated by: mcg6_lines, theorems.
 use Rattle.std.specs.Prelude.{ℕ, ◌++◌, ◌&&◌, if◌then◌else◌, List, [], ◌∷◌, codes, length, map, decimal}
-use Rattle.counting.specs.Common.{count, mem, none, rising_list}
+use Rattle.allowed_edges.specs.from_counting.Common.{count, mem, none, rising_list}
 use Rattle.graph_core.specs.Common.{Graph, components, first_end, has_perfect, inside, is_allowed, second_end, size, with_edge, with_ends}
 use Rattle.graph6_text.specs.Common.{graph6_of}
 use Rattle.report_text.specs.Common.{numbers_text}

@@ -4,3 +4,8 @@ pub mod LeafLines
 pub mod Elementary
 pub mod Selecting
 pub mod Telling
+-- Passed on to the crates above: from_NAME is all that the crate NAME has in its folder of this name.
+pub use Rattle.leaf_kinds.specs as from_leaf_kinds
+pub use Rattle.decomposer.specs as from_decomposer
+pub use Rattle.report_text.specs as from_report_text
+pub use Rattle.definition_laws.specs as from_definition_laws

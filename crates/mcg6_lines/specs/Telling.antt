@@ -2,7 +2,7 @@
 -- Stated by: mcg6_lines. Used by: mcg6_top, theorems.
 use Rattle.std.specs.Prelude.{◌≡◌, ℕ, ◌||◌, nat_lt, if◌then◌else◌, List, Ok, Err}
 use Rattle.graph_core.specs.Common.{Graph, size}
-use Rattle.line_text.specs.declared.faults.FaultKind.{FaultKind}
+use Rattle.graph_core.specs.from_line_text.declared.faults.FaultKind.{FaultKind}
 use Rattle.graph6_text.specs.Common.{outcome_of}
 use Rattle.graph_text.specs.Common.{most_vertices, most_edges, plain_names, graph_text, named_text}
 use Rattle.mcg6_lines.specs.KindLines.{IsKindLine}

@@ -1,14 +1,14 @@
 //! Whether a graph is bicritical.
 ghost use Rattle.std.specs.Prelude.{◌≡◌, ◌≢◌, ◌↔◌, ◌≤◌, ℕ, [], true, IfOk, IsTrue};
-ghost use Rattle.counting.specs.Common.{Within, mem};
+ghost use Rattle.allowed_edges.specs.from_counting.Common.{Within, mem};
 ghost use Rattle.graph_core.specs.Common.{IsBicritical};
 ghost use Rattle.mcg6_lines.specs.Selecting.{Decides, HasAllPartners};
 
 use crate::query::Property;
+use allowed_edges::match_core::{LazyPartners, perfect_without};
 use graph_core::MultiGraph;
-use match_core::{LazyPartners, perfect_without};
+use graph_core::vset_core::{MOST_VERTICES, VSet};
 use std::alloc::{AllocError as Memory, Global};
-use vset_core::{MOST_VERTICES, VSet};
 
 /// Whether the graph is bicritical. Takes one maximum matching, and then a search for each vertex,
 /// up to the first that has not all others as its partners.

@@ -3,10 +3,10 @@
 ghost use Rattle.std.specs.Prelude.{◌≡◌, ◌==◌, ◌%◌, IfOk, length, count_by};
 ghost use Rattle.mcg6_lines.specs.Standings.{IsDeficiency, IsFirstReason};
 
+use allowed_edges::match_core::maximum;
+use graph_core::vset_core::VSet;
 use graph_core::{MultiGraph, Reason};
-use match_core::maximum;
 use std::alloc::{AllocError as Memory, Global};
-use vset_core::VSet;
 
 /// The deficiency of a graph that is not covered for this reason. A matching is sought only if the
 /// graph has two vertices and is not connected.

@@ -1,18 +1,18 @@
 //! The lines of `elementary`.
 ghost use Rattle.std.specs.Prelude.{◌≡◌, ◌≢◌, ◌≤◌, ◌<◌, ◌++◌, ◌&&◌, true, All, IfOk, OnOk, length};
-ghost use Rattle.counting.specs.Common.{IsRisingIn, Within, mem, none};
+ghost use Rattle.allowed_edges.specs.from_counting.Common.{IsRisingIn, Within, mem, none};
 ghost use Rattle.graph_core.specs.Common.{IsSimple, size, with_edge};
-ghost use Rattle.match_core.specs.Common.{ArePartners};
+ghost use Rattle.allowed_edges.specs.from_match_core.Common.{ArePartners};
 ghost use Rattle.report_text.specs.Common.{numbers_text};
 ghost use Rattle.mcg6_lines.specs.Elementary.{allowed_subgraph, component_graph, component_line, component_lines, elementary_lines, elementary_parts, number_in, with_allowed, with_inside};
 
 use crate::decimals::{push_decimal, push_number};
+use allowed_edges::match_core::{PartnerTable, maximum};
 use allowed_edges::{is_allowed_in, partners_where_perfect};
+use graph_core::vset_core::VSet;
 use graph_core::{Ends, MultiGraph, SetList};
 use graph6_text::push_graph6;
-use match_core::{PartnerTable, maximum};
 use std::alloc::{AllocError as Memory, Global};
-use vset_core::VSet;
 
 /// The lines of the elementary components of a simple graph in the line with this number, by their
 /// least vertices; nothing if it has no perfect matching. Takes one maximum matching, at most n

@@ -27,6 +27,9 @@ mod selecting;
 mod standings;
 mod telling;
 
+// Passed on to the crates above.
+pub use decomposer;
 pub use query::{Property, Query};
+pub use report_text;
 pub use standings::Standing;
 pub use telling::tell;

@@ -6,13 +6,13 @@ ghost use Rattle.mcg6_lines.specs.Selecting.{Decides, IsSelected};
 use crate::bicritical::is_bicritical;
 use crate::leaf_counts::counted;
 use crate::query::Property;
+use allowed_edges::match_core::perfect_without;
+use graph_core::vset_core::VSet;
 use graph_core::{Kind, MultiGraph};
-use graph_facts::Covered;
+use leaf_kinds::graph_facts::Covered;
 use leaf_kinds::kind_of;
-use match_core::perfect_without;
-use separation_kit::FirstPairs;
+use leaf_kinds::separation_kit::FirstPairs;
 use std::alloc::{AllocError as Memory, Global};
-use vset_core::VSet;
 
 /// The line itself if its graph has the property, and nothing if it has not.
 pub fn selected(

@@ -11,9 +11,9 @@ use crate::leaf_lines::leaf_lines;
 use crate::query::Query;
 use crate::selecting::selected;
 use graph_core::MultiGraph;
+use graph_core::line_text::{FaultKind, TextFault};
 use graph_text::{VERSION_ONE_EDGES, VERSION_ONE_VERTICES, plain_names, write_graph, write_named};
 use graph6_text::read_graph6;
-use line_text::{FaultKind, TextFault};
 use std::alloc::{AllocError as Memory, Global};
 
 /// The answer to a line with this number, counted from 1: the bytes that are written for what the

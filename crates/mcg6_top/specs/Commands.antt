@@ -4,8 +4,8 @@ use Rattle.std.specs.Prelude.{ℕ, ◌&&◌, Bool, true, false, List, [], ◌∷
 use Rattle.std.specs.List.{starts_with}
 use Rattle.std.specs.Option.{option_map, option_or}
 use Rattle.line_text.specs.Common.{number_of}
-use Rattle.decomposer.specs.Common.{order_named}
-use Rattle.decomposer.specs.declared.orders.NamedOrder.TheVariants.{First}
+use Rattle.mcg6_lines.specs.from_decomposer.Common.{order_named}
+use Rattle.mcg6_lines.specs.from_decomposer.declared.orders.NamedOrder.TheVariants.{First}
 use Rattle.mcg6_lines.specs.declared.query.Property.{Property}
 use Rattle.mcg6_lines.specs.declared.query.Property.TheVariants.{Covered, Uncovered, Perfect, Brick, Brace, Bicritical, Composite, Bricks, Braces}
 use Rattle.mcg6_lines.specs.declared.query.Query.{Query}

@@ -1,7 +1,7 @@
 -- Which status and which output a graph file stands for, where its graph6 text is asked for.
 -- Stated by no contract. Used by: mcg6_top.
 use Rattle.std.specs.Prelude.{◌≡◌, ℕ, ◌≤◌, List, [], length, Option}
-use Rattle.outside.specs.Common.{most_bytes}
+use Rattle.mcg6_encoder.specs.from_outside.Common.{most_bytes}
 use Rattle.mcg6_reader.specs.declared.ending.BadLine.{BadLine}
 use Rattle.mcg6_reader.specs.Common.{Appended, IsKnownLeft}
 use Rattle.mcg6_encoder.specs.declared.ending.EncodeEnding.{EncodeEnding}

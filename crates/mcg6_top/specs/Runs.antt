@@ -2,7 +2,7 @@
 -- it.
 -- Stated by: mcg6_top. Used by: mcg6_front_top.
 use Rattle.std.specs.Prelude.{◌≡◌, ◌↔◌, ℕ, List, [], Option, Some, None}
-use Rattle.outside.specs.Common.{Rose}
+use Rattle.mcg6_encoder.specs.from_outside.Common.{Rose}
 use Rattle.mcg6_reader.specs.Common.{Appended, ReadsTold, Reports, TellsList}
 use Rattle.mcg6_reader.specs.declared.ending.Ending.TheVariants as ending
 use Rattle.mcg6_encoder.specs.declared.ending.EncodeEnding.{EncodeEnding}

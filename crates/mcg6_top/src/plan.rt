@@ -4,8 +4,8 @@ ghost use Rattle.std.specs.Option.{option_map};
 ghost use Rattle.mcg6_top.specs.Common.{asked, list_asked, command_of, list_command_of, encode_of, encode_pair, property_named, bricks_property, braces_property, counted_property, query_named, leaves_named, select_named, pair_named, may_skip, asks_skip, command_with_word, command_with_two, command_with, command_if, text_of};
 
 use crate::command::{AtBadLine, Command, ListCommand};
-use decomposer::NamedOrder;
 use line_text::number;
+use mcg6_lines::decomposer::NamedOrder;
 use mcg6_lines::{Property, Query};
 
 // The property of so many bricks that the word names, if it names one.

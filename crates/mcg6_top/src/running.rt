@@ -6,9 +6,9 @@ use crate::command::Command;
 use crate::line::CommandLine;
 use crate::lister::Lister;
 use crate::status::{ListEnd, ListStatus, RunEnd, status_of};
+use mcg6_encoder::outside::{Sink, Source};
 use mcg6_encoder::{EncodeEnding, encode};
 use mcg6_reader::tell_all;
-use outside::{Sink, Source};
 use std::alloc::Global;
 
 // Answers the list that is left of the source.

@@ -1,6 +1,6 @@
 -- Two lists side by side, and orders: lists that contain k + 1 to k + n once each and nothing else.
 -- Idea: by induction on the lists; the times of a number add up where two lists are joined.
-use Rattle.counting.proofs.Common.{◌≡◌, ℕ, suc, zero, ◌+◌, ◌≤◌, ◌<◌, cond, List, [], ◌∷◌, ◌++◌, length, ◌⊎◌, inl, inr, refl, sym, ap, ap₂, ◌∙◌, arith, eq-eqb, ne_eqb, slice_index, slice_index_or, cases_lt, bit, times}
+use Rattle.graph_core.proofs.from_counting.Common.{◌≡◌, ℕ, suc, zero, ◌+◌, ◌≤◌, ◌<◌, cond, List, [], ◌∷◌, ◌++◌, length, ◌⊎◌, inl, inr, refl, sym, ap, ap₂, ◌∙◌, arith, eq-eqb, ne_eqb, slice_index, slice_index_or, cases_lt, bit, times}
 use Rattle.tree_core.proofs.Common.{numbers, position}
 
 -- numbers and partitions side by side, any two related by R

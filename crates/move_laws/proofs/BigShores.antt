@@ -1,6 +1,6 @@
 -- Big shores at a partition: tight, with at least three blocks inside and outside. Two disjoint
 -- ones may be merged in either order, which is all that Rotate needs.
-use Rattle.counting.proofs.Common.{Bool, List, ap, arith, false, inl, inr, not, subst, sym, ℕ, ◌&&◌, ◌+◌, ◌∙◌, ◌≡◌, ◌≤◌, both_ways, cases_Bool, same_rising_list, and_implied, not_not, IsRisingIn, mem, Set, complement, meet, minus}
+use Rattle.graph_core.proofs.from_counting.Common.{Bool, List, ap, arith, false, inl, inr, not, subst, sym, ℕ, ◌&&◌, ◌+◌, ◌∙◌, ◌≡◌, ◌≤◌, both_ways, cases_Bool, same_rising_list, and_implied, not_not, IsRisingIn, mem, Set, complement, meet, minus}
 use Rattle.graph_core.proofs.Common.{block_count_congr, block_count_parts, block_count_rest, tight_congr, tight_rest, union_congr, union_meet, union_minus, union_rest, complement_of-rises, mem-complement_of, merged_blocks, Apart, Below, Some, block_count_around, block_count_outside, closed_apart, closed_over, covered_merged, merge_of, tight_down_merged, tight_up_merged, same_blocks, IsCovered, Graph, IsGraph, AreBlocks, IsMerge, IsPartition, complement_of, contracted, merged, IsTightAt, IsUnion, block_count}
 use Rattle.tree_core.proofs.Common.{IsCutAt}
 use Rattle.move_laws.proofs.CarriedCuts.{some_of}

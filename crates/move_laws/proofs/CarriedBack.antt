@@ -1,6 +1,6 @@
 -- Carrying there and back: a tree whose shores are canonical unions of blocks is carried back to
 -- itself, so what is carried to a derivation was one.
-use Rattle.counting.proofs.Common.{◌≡◌, ℕ, ◌-◌, Bool, true, false, not, List, refl, ap, ◌∙◌, arith, subst, mem-within, member-of_set, mem-outside, mem-rising_list, rising_list-rises, same_rising_list, not_not, Within, IsRisingIn, mem, rising_list}
+use Rattle.graph_core.proofs.from_counting.Common.{◌≡◌, ℕ, ◌-◌, Bool, true, false, not, List, refl, ap, ◌∙◌, arith, subst, mem-within, member-of_set, mem-outside, mem-rising_list, rising_list-rises, same_rising_list, not_not, Within, IsRisingIn, mem, rising_list}
 use Rattle.graph_core.proofs.Common.{complement_of-rises, union-complement_of, closed_up, merged_merges, Graph, IsGraph, AreBlocks, IsPartition, complement_of, IsUnion}
 use Rattle.tree_core.proofs.Common.{partition-kept, partition-merged, complement-nonempty, IsDerivationAt, kept_at, merged_at, StandsAt, Fits, Shape, cut, leaf}
 use Rattle.move_laws.proofs.CarriedTrees.{carried_derives}

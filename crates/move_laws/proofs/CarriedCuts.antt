@@ -1,7 +1,7 @@
 -- A cut carried along an isomorphism of blocks: the isomorphism goes down to merged partitions;
 -- the image of a shore or the image's complement is a cut again, and each side of the cut at the
 -- one partition has its image as a side of that at the other.
-use Rattle.counting.proofs.Common.{Bool, List, ap, arith, false, inl, inr, length, not, refl, sym, true, ℕ, ◌∙◌, ◌≡◌, ◌≤◌, bit_true, mem-rising_list, rising_list-rises, some_term, not_not, not_not_back, Within, bit, IsRisingIn, mem, rising_list, Set, complement}
+use Rattle.graph_core.proofs.from_counting.Common.{Bool, List, ap, arith, false, inl, inr, length, not, refl, sym, true, ℕ, ◌∙◌, ◌≡◌, ◌≤◌, bit_true, mem-rising_list, rising_list-rises, some_term, not_not, not_not_back, Within, bit, IsRisingIn, mem, rising_list, Set, complement}
 use Rattle.graph_core.proofs.Common.{at_rep, block_count_congr, block_count_rest, rep, rep_in, tight_congr, tight_rest, union_congr, union_rest, complement_of-rises, mem-complement_of, Some, alike_down, alike_in, alike_up, merge_of, same_side, merged_merges, Graph, IsGraph, first_end, second_end, AreBlocks, IsMerge, complement_of, merged, place, IsTightAt, IsUnion, block_count, blocks_in, IsNontrivial}
 use Rattle.tree_core.proofs.Common.{IsCutAt}
 use Rattle.move_laws.proofs.Images.{image_at, image_nontrivial, image_tight}

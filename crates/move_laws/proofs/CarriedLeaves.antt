@@ -1,6 +1,6 @@
 -- The leaves of a carried tree are the same leaves as those of the tree, by the names of the images
 -- of blocks; two subtrees change places if the complement of an image is taken.
-use Rattle.counting.proofs.Common.{Bool, List, ap, arith, false, length, not, refl, sym, true, ℕ, ◌∙◌, ◌≡◌, cond, map, subst, ◌+◌, ◌-◌, [], ◌++◌, get_or-map, length-map, map-append, Within, mem, rising_list, last_of}
+use Rattle.graph_core.proofs.from_counting.Common.{Bool, List, ap, arith, false, length, not, refl, sym, true, ℕ, ◌∙◌, ◌≡◌, cond, map, subst, ◌+◌, ◌-◌, [], ◌++◌, get_or-map, length-map, map-append, Within, mem, rising_list, last_of}
 use Rattle.graph_core.proofs.Common.{rep, merged_blocks, alike_up, covered_merged, Finer, IsCovered, Graph, IsGraph, AreBlocks, complement_of, contracted, merged, place, IsPartition, block}
 use Rattle.tree_core.proofs.Common.{length-leaves_at, IsCutAt, IsDerivationAt, kept_at, merged_at, numbers, leaves_at, Shape, cut, leaf, leaf_count}
 use Rattle.move_laws.proofs.CarriedCuts.{IsImage, image-merges, image-merged, image-inside, image-outside, rest-inside, rest-outside}

@@ -1,6 +1,6 @@
 -- The law of carrying: along an isomorphism of blocks a derivation at one partition is carried to
 -- a derivation at the other.
-use Rattle.counting.proofs.Common.{Bool, List, false, not, refl, true, ℕ, ◌≡◌, mem, rising_list}
+use Rattle.graph_core.proofs.from_counting.Common.{Bool, List, false, not, refl, true, ℕ, ◌≡◌, mem, rising_list}
 use Rattle.graph_core.proofs.Common.{Graph, IsGraph, AreBlocks, complement_of, merged}
 use Rattle.tree_core.proofs.Common.{IsCutAt, IsDerivationAt, IsLeafAt, Shape, cut, leaf}
 use Rattle.move_laws.proofs.CarriedCuts.{IsImage, image-merges, image-merged, image-cut, rest-cut, image-inside, image-outside, rest-inside, rest-outside}

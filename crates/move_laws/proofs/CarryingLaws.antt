@@ -1,6 +1,6 @@
 -- What one leaf under names of blocks carries to the other: tight shores, derivations, merged
 -- partitions; and the inverse names.
-use Rattle.counting.proofs.Common.{◌≡◌, ◌↔◌, ℕ, ◌-◌, ◌<◌, List, [], length, map, sym, ap, ◌∙◌, arith, get_or-map, length-map, mem-within, member-of_set, mem-rising_list, rising_list-rises, Within, IsRisingIn, last_of, mem, Set}
+use Rattle.graph_core.proofs.from_counting.Common.{◌≡◌, ◌↔◌, ℕ, ◌-◌, ◌<◌, List, [], length, map, sym, ap, ◌∙◌, arith, get_or-map, length-map, mem-within, member-of_set, mem-rising_list, rising_list-rises, Within, IsRisingIn, last_of, mem, Set}
 use Rattle.graph_core.proofs.Common.{rep, rep_in, rep_place, union_congr, Some, merged_merges, Graph, IsGraph, IsPartition, block, merged, place, IsTightAt, IsUnion, blocks_in, IsNontrivial}
 use Rattle.tree_core.proofs.Common.{stands-derivation_at, IsDerivationAt, position, StandsAt, Fits, Shape}
 use Rattle.move_laws.proofs.CarriedBack.{carried_back, carried_twice}

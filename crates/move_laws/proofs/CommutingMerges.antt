@@ -1,6 +1,6 @@
 -- Merges of disjoint or nested unions of blocks commute: the partition after both does not depend
 -- on their order.
-use Rattle.counting.proofs.Common.{Bool, List, false, inl, inr, refl, sym, true, ℕ, ◌∙◌, ◌≡◌, both_ways, cases_Bool, Within, Set}
+use Rattle.graph_core.proofs.from_counting.Common.{Bool, List, false, inl, inr, refl, sym, true, ℕ, ◌∙◌, ◌≡◌, both_ways, cases_Bool, Within, Set}
 use Rattle.graph_core.proofs.Common.{Below, alike_down, alike_in, alike_up, same_side, Finer, AreBlocks, IsMerge, place, IsUnion}
 
 -- first x and then y gives no coarser blocks than first y and then x

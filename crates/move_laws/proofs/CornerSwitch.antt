@@ -1,6 +1,6 @@
 -- A Switch of the two corners of a crossing shore, each of which is one block: the shore, or its
 -- complement, becomes the root shore.
-use Rattle.counting.proofs.Common.{Bool, List, None, Some, [], ap, ap₂, arith, false, if◌then◌else◌, inl, inr, not, refl, subst, sym, true, ℕ, ◌&&◌, ◌||◌, ◌∙◌, ◌∷◌, ◌≡◌, ◌⊎◌, mem-rising_list, rising_list-rises, same_rising_list, true_all_in, all_in_false, nor_right, not_not, Within, IsRisingIn, is_subset, mem, complement, meet, union}
+use Rattle.graph_core.proofs.from_counting.Common.{Bool, List, None, Some, [], ap, ap₂, arith, false, if◌then◌else◌, inl, inr, not, refl, subst, sym, true, ℕ, ◌&&◌, ◌||◌, ◌∙◌, ◌∷◌, ◌≡◌, ◌⊎◌, mem-rising_list, rising_list-rises, same_rising_list, true_all_in, all_in_false, nor_right, not_not, Within, IsRisingIn, is_subset, mem, complement, meet, union}
 use Rattle.graph_core.proofs.Common.{complement_of-rises, mem-complement_of, Graph, complement_of}
 use Rattle.tree_core.proofs.Common.{IsDerivationAt, kept_at, merged_at, IsBlockOf, inner_rest, is_proper, kept_if_greatest_stays, kept_if_greatest_comes, merged_if_greatest_stays, merged_if_greatest_comes, outer_rest, switch_at, switch_result_at, union_list, meet_list, Shape, cut, cut_count}
 use Rattle.move_laws.proofs.BigShores.{Big, Stage, big_rest, big_some, stage_merged}

@@ -1,7 +1,7 @@
 -- The corners of two crossing shores x and y, in one form for both cases: z is y or its complement,
 -- such that x and z have an odd number of blocks in common. The inner corner is x ∩ z, and the
 -- outer corner is the complement of x ∪ z.
-use Rattle.counting.proofs.Common.{Bool, List, ap, ap₂, arith, false, inl, inr, length, not, subst, suc, sym, true, zero, ℕ, ◌&&◌, ◌||◌, ◌∙◌, ◌≡◌, ◌≤◌, ◌⊎◌, true≢false, and_left, and_right, only_one, mem-rising_list, rising_list-rises, and_implied, Within, is_odd, IsRisingIn, mem, complement, meet, minus, union}
+use Rattle.graph_core.proofs.from_counting.Common.{Bool, List, ap, ap₂, arith, false, inl, inr, length, not, subst, suc, sym, true, zero, ℕ, ◌&&◌, ◌||◌, ◌∙◌, ◌≡◌, ◌≤◌, ◌⊎◌, true≢false, and_left, and_right, only_one, mem-rising_list, rising_list-rises, and_implied, Within, is_odd, IsRisingIn, mem, complement, meet, minus, union}
 use Rattle.graph_core.proofs.Common.{at_place, block_count_congr, block_count_parts, meet_tight_at, tight_congr, tight_rest, union_congr, union_meet, union_rest, union_tight_at, place_in, mem-complement_of, Apart, Below, alike_in, alike_up, block_count_new, block_count_outside, closed_apart, same_side, Graph, AreBlocks, complement_of, contracted, merged, place, IsTightAt, IsUnion, block_count, blocks_in}
 use Rattle.tree_core.proofs.Common.{IsBlockOf, meet_list}
 use Rattle.move_laws.proofs.BigShores.{Big, Stage, big_merge, big_rest, big_some, rest_rest, stage_merged}

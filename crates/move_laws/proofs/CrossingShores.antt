@@ -1,7 +1,7 @@
 -- Exposing a shore that crosses the root shore: the inner and the outer corner are exposed first
 -- unless they are single blocks, a Switch exchanges them, and Rotate brings the shore back above
 -- both.
-use Rattle.counting.proofs.Common.{Bool, List, None, Some, ap, arith, cond, false, if◌then◌else◌, inl, inr, not, refl, sym, true, ℕ, ◌&&◌, ◌∙◌, ◌≡◌, Option, odd-add, Within, is_odd, IsRisingIn, mem, meet, minus}
+use Rattle.graph_core.proofs.from_counting.Common.{Bool, List, None, Some, ap, arith, cond, false, if◌then◌else◌, inl, inr, not, refl, sym, true, ℕ, ◌&&◌, ◌∙◌, ◌≡◌, Option, odd-add, Within, is_odd, IsRisingIn, mem, meet, minus}
 use Rattle.graph_core.proofs.Common.{block_count_congr, block_count_parts, union_minus, mem-complement_of, Graph, complement_of, contracted, block_count}
 use Rattle.tree_core.proofs.Common.{IsDerivationAt, kept_at, merged_at, PlainMove, meet_list, Shape, cut}
 use Rattle.move_laws.proofs.BigShores.{Big, Stage, big_rest, big_some, cut_big, stage_merged}

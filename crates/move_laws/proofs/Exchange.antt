@@ -1,7 +1,7 @@
 -- The exchange law: if a block on each side of a tight shore is exchanged and the new shore is
 -- tight, the four parts satisfy the conditions on regions for an exchange of blocks, so the
 -- partitions below the two shores are the same leaves.
-use Rattle.counting.proofs.Common.{Bool, List, ap, arith, cond, false, inl, inr, length, not, suc, sym, true, ℕ, ◌&&◌, ◌+◌, ◌||◌, ◌∙◌, ◌≡◌, ◌≢◌, cases_Bool, total_at, Within, bit, is_odd, Set, complement, meet, minus, union}
+use Rattle.graph_core.proofs.from_counting.Common.{Bool, List, ap, arith, cond, false, inl, inr, length, not, suc, sym, true, ℕ, ◌&&◌, ◌+◌, ◌||◌, ◌∙◌, ◌≡◌, ◌≢◌, cases_Bool, total_at, Within, bit, is_odd, Set, complement, meet, minus, union}
 use Rattle.graph_core.proofs.Common.{at_place, at_rep, block_count_congr, block_count_parts, no_edge_at, rep, rep_in, rep_place, union_meet, union_minus, union_rest, place_in, IsCovered, Graph, IsGraph, first_end, second_end, AreBlocks, IsMerge, contracted, place, IsUnion, block_count, blocks_in}
 use Rattle.tree_core.proofs.Common.{IsBlockOf}
 use Rattle.move_laws.proofs.ExchangedBlocks.{exchange, four_turned}

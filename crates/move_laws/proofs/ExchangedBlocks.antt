@@ -1,7 +1,7 @@
 -- The exchange of two blocks between two sides of a partition into four regions: the merged
 -- partitions are the same leaf. The hard pair of blocks is settled by parity, all others by cases
 -- on the regions.
-use Rattle.counting.proofs.Common.{Bool, List, ap, ap₂, arith, cond, false, inl, inr, refl, sym, true, ℕ, ◌&&◌, ◌+◌, ◌||◌, ◌∙◌, ◌≡◌, ◌≢◌, and_parts, cases_Bool, or_cases, or_fails_first, Within, bit, is_odd, Set, union}
+use Rattle.graph_core.proofs.from_counting.Common.{Bool, List, ap, ap₂, arith, cond, false, inl, inr, refl, sym, true, ℕ, ◌&&◌, ◌+◌, ◌||◌, ◌∙◌, ◌≡◌, ◌≢◌, and_parts, cases_Bool, or_cases, or_fails_first, Within, bit, is_odd, Set, union}
 use Rattle.graph_core.proofs.Common.{union_join, alike_down, alike_in, alike_up, same_side, IsCovered, Graph, IsGraph, first_end, second_end, size, AreBlocks, IsMerge, contracted, place, IsUnion, block_count}
 use Rattle.move_laws.proofs.FourRegions.{FourRegions, Link, hard_pair}
 use Rattle.move_laws.specs.Common.{EndsAt, Isomorphism, OneWay}

@@ -1,6 +1,6 @@
 -- The exchange law by names: the two pairs of partitions are the same leaves by the names of the
 -- images.
-use Rattle.counting.proofs.Common.{◌≡◌, ℕ, Bool, true, false, ◌||◌, ◌&&◌, not, List, map, sym, ap, ◌∙◌, arith, or_right, mem-rising_list, rising_list-rises, Within, IsRisingIn, last_of, mem, union}
+use Rattle.graph_core.proofs.from_counting.Common.{◌≡◌, ℕ, Bool, true, false, ◌||◌, ◌&&◌, not, List, map, sym, ap, ◌∙◌, arith, or_right, mem-rising_list, rising_list-rises, Within, IsRisingIn, last_of, mem, union}
 use Rattle.graph_core.proofs.Common.{tight_congr, tight_rest, merged_blocks, Some, merge_of, IsCovered, Graph, IsGraph, IsPartition, contracted, merged, IsTightAt}
 use Rattle.tree_core.proofs.Common.{kept_at, merged_at, kept_image, merged_image, inner_rest, outer_rest, union_list}
 use Rattle.move_laws.proofs.BigShores.{Stage}

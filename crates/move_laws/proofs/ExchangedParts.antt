@@ -1,7 +1,7 @@
 -- The exchange law at a list of blocks: x is a tight shore, u a block inside and v a block outside,
 -- and the set of u and the rest of the outside is tight too. There is no other condition on x: it
 -- may be trivial, and it may contain the highest-numbered vertex.
-use Rattle.counting.proofs.Common.{List, ap, cond, not, ℕ, Bool, true, false, ◌&&◌, ◌||◌, ◌∙◌, ◌≡◌, arith, mem-rising_list, Within, IsRisingIn, mem, Set, complement, minus, union}
+use Rattle.graph_core.proofs.from_counting.Common.{List, ap, cond, not, ℕ, Bool, true, false, ◌&&◌, ◌||◌, ◌∙◌, ◌≡◌, arith, mem-rising_list, Within, IsRisingIn, mem, Set, complement, minus, union}
 use Rattle.graph_core.proofs.Common.{complement_of-rises, mem-complement_of, union-complement_of, merged_blocks, Some, merged_merges, Graph, IsMerge, IsPartition, complement_of, IsUnion}
 use Rattle.tree_core.proofs.Common.{kept_at, merged_at, inner_rest, outer_rest}
 use Rattle.move_laws.proofs.BigShores.{Stage}

@@ -1,7 +1,7 @@
 -- Four regions of a matching covered graph, two of them single blocks u and v: if b has an even
 -- number of blocks and no edge to a, a perfect matching with an edge from u to b has an edge from v
 -- to b.
-use Rattle.counting.proofs.Common.{Bool, List, ap, ap₂, arith, eq-eqb, false, inl, inr, ne_eqb, not, refl, suc, sym, true, ℕ, ◌&&◌, ◌+◌, ◌==◌, ◌||◌, ◌∙◌, ◌≡◌, ◌≢◌, ◌≤◌, and_from, both_ways, cases_Bool, odd-double, some_none, some_true, at_le_total, total_add, total_le, Within, bit, count, is_odd, Set, some}
+use Rattle.graph_core.proofs.from_counting.Common.{Bool, List, ap, ap₂, arith, eq-eqb, false, inl, inr, ne_eqb, not, refl, suc, sym, true, ℕ, ◌&&◌, ◌+◌, ◌==◌, ◌||◌, ◌∙◌, ◌≡◌, ◌≢◌, ◌≤◌, and_from, both_ways, cases_Bool, odd-double, some_none, some_true, at_le_total, total_add, total_le, Within, bit, count, is_odd, Set, some}
 use Rattle.graph_core.proofs.Common.{at_place, contracted-ends, contracted-graph, contracted-size, place_in, parity, IsCovered, Graph, IsGraph, connects, first_end, in_cut, inside, second_end, size, Allowed, AreBlocks, contracted, place, IsUnion, block_count, blocks_in}
 use Rattle.tree_core.proofs.Common.{IsBlockOf}
 

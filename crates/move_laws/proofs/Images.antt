@@ -1,6 +1,6 @@
 -- Images under an isomorphism of blocks: tight shores, their numbers of blocks and being covered
 -- are carried in both directions.
-use Rattle.counting.proofs.Common.{Bool, List, ap, arith, false, inl, inr, length, refl, subst₂, suc, sym, true, zero, ℕ, ◌∙◌, ◌≡◌, ◌≢◌, both_ways, some_true, true_some, Within, count, is_odd, Set, complement, some}
+use Rattle.graph_core.proofs.from_counting.Common.{Bool, List, ap, arith, false, inl, inr, length, refl, subst₂, suc, sym, true, zero, ℕ, ◌∙◌, ◌≡◌, ◌≢◌, both_ways, some_true, true_some, Within, count, is_odd, Set, complement, some}
 use Rattle.graph_core.proofs.Common.{Alike, has_ends-from, tight_back, at_place, at_rep, block_count_rest, count_over, place_rep, rep, rep_in, rep_place, tight_congr, union_rest, contracted-ends, contracted-graph, contracted-size, place_in, cut_congr, has_ends-back, has_ends-cases, Graph, IsGraph, first_end, has_ends, second_end, size, AreBlocks, contracted, place, IsTightAt, IsUnion, block_count, blocks_in, IsNontrivial}
 use Rattle.move_laws.specs.Common.{Isomorphism, pre}
 

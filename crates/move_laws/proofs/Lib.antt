@@ -33,3 +33,6 @@ pub mod SwitchParts
 pub mod MoveParts
 pub mod ScriptPairs
 pub mod ExchangedNames
+-- Passed on to the crates above: from_NAME is all that the crate NAME has in its folder of this name.
+pub use Rattle.tree_core.proofs.from_contraction as from_contraction
+pub use Rattle.tree_core.proofs as from_tree_core

@@ -2,7 +2,7 @@
 -- elsewhere they stay. So the maps of a proper move pair the leaves of a derivation with those of
 -- the next.
 use Rattle.move_laws.specs.Common.{AreRising, IsPairing}
-use Rattle.counting.proofs.Common.{◌≡◌, ℕ, ◌+◌, Bool, true, false, ◌&&◌, not, List, [], ◌∷◌, ◌++◌, length, map, Some, None, if◌then◌else◌, refl, sym, ap, ◌∙◌, arith, subst, subst₂, length-append, map-append, none-some, same_Some, all_in_true, is_apart, is_subset, mem, everything, minus}
+use Rattle.graph_core.proofs.from_counting.Common.{◌≡◌, ℕ, ◌+◌, Bool, true, false, ◌&&◌, not, List, [], ◌∷◌, ◌++◌, length, map, Some, None, if◌then◌else◌, refl, sym, ap, ◌∙◌, arith, subst, subst₂, length-append, map-append, none-some, same_Some, all_in_true, is_apart, is_subset, mem, everything, minus}
 use Rattle.graph_core.proofs.Common.{Graph, IsGraph, IsPartition, complement_of, contracted, names_of, singles, IsCovered}
 use Rattle.tree_core.proofs.Common.{partitions-leaves_at, length-leaves_at, IsCutAt, IsDerivationAt, kept_at, merged_at, move_maps, move_order, names_at, numbers, order_at, rotate_order, switch_names, switch_order, leaves, leaves_at, BlocksAt, IsProper, PlainMove, inner_rest, is_proper, kept_if_greatest_stays, kept_if_greatest_comes, merged_if_greatest_stays, merged_if_greatest_comes, outer_rest, union_list, last_step, move_result, parent_path, result_at, rotate_at, rotate_result_at, switch_at, switch_result_at, Shape, cut, leaf, leaf_count}
 use Rattle.tree_core.specs.declared.path.Side.{Side}

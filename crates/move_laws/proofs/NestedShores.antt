@@ -1,7 +1,7 @@
 -- Exposing a shore that is nested with the root shore or disjoint from it: it is exposed in the
 -- child that contains it, and Rotate brings it above the root shore.
 use Rattle.move_laws.specs.Common.{AreRising, IsProperScript}
-use Rattle.counting.proofs.Common.{Bool, List, None, Some, [], ap, arith, cond, false, if◌then◌else◌, inl, inr, length, map, not, refl, subst, suc, sym, true, zero, ℕ, ◌&&◌, ◌*◌, ◌++◌, ◌+◌, ◌∙◌, ◌∷◌, ◌≡◌, ◌≤◌, ◌⊎◌, and_parts, both_ways, cases_Bool, not-true, odd-add, same_rising_list, true_all_in, all_in_true, some_none, some_true, same_tests, Within, is_odd, is_apart, is_subset, mem, Set, everything, meet, minus, some}
+use Rattle.graph_core.proofs.from_counting.Common.{Bool, List, None, Some, [], ap, arith, cond, false, if◌then◌else◌, inl, inr, length, map, not, refl, subst, suc, sym, true, zero, ℕ, ◌&&◌, ◌*◌, ◌++◌, ◌+◌, ◌∙◌, ◌∷◌, ◌≡◌, ◌≤◌, ◌⊎◌, and_parts, both_ways, cases_Bool, not-true, odd-add, same_rising_list, true_all_in, all_in_true, some_none, some_true, same_tests, Within, is_odd, is_apart, is_subset, mem, Set, everything, meet, minus, some}
 use Rattle.graph_core.proofs.Common.{block_count_some, union_minus, mem-complement_of, Apart, Below, tight_down_merged, Graph, complement_of, contracted, merged, block_count}
 use Rattle.tree_core.proofs.Common.{IsDerivationAt, IsLeafAt, kept_at, merged_at, PlainMove, below, rotate_at, rotate_result_at, Shape, cut, cut_count, leaf}
 use Rattle.tree_core.specs.declared.path.Side.TheVariants.{Kept, Merged}

@@ -1,6 +1,6 @@
 -- A crossing shore is brought above both corners: after the inner one was brought to the root of
 -- `kept`, above the outer one below it, and back.
-use Rattle.counting.proofs.Common.{Bool, List, None, Some, [], ap, arith, false, if◌then◌else◌, inl, inr, length, map, not, refl, subst, sym, true, ℕ, ◌&&◌, ◌*◌, ◌++◌, ◌+◌, ◌||◌, ◌∙◌, ◌∷◌, ◌≡◌, ◌≤◌, Option, option_and_then, and_left, and_right, not-true, rising_list-rises, true_all_in, all_in_false, and_second, nor_left, nor_right, Within, IsRisingIn, mem, meet}
+use Rattle.graph_core.proofs.from_counting.Common.{Bool, List, None, Some, [], ap, arith, false, if◌then◌else◌, inl, inr, length, map, not, refl, subst, sym, true, ℕ, ◌&&◌, ◌*◌, ◌++◌, ◌+◌, ◌||◌, ◌∙◌, ◌∷◌, ◌≡◌, ◌≤◌, Option, option_and_then, and_left, and_right, not-true, rising_list-rises, true_all_in, all_in_false, and_second, nor_left, nor_right, Within, IsRisingIn, mem, meet}
 use Rattle.graph_core.proofs.Common.{mem-complement_of, Apart, Graph, complement_of, merged}
 use Rattle.tree_core.proofs.Common.{IsDerivationAt, kept_at, merged_at, IsBlockOf, PlainMove, below, rotate_at, rotate_result_at, meet_list, Shape, cut, cut_count}
 use Rattle.tree_core.specs.declared.path.Side.TheVariants.{Kept, Merged}

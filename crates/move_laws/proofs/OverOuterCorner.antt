@@ -1,6 +1,6 @@
 -- A crossing shore is brought above the outer corner: at once if this is one block, otherwise after
 -- it was brought to the root of `merged`, and back above it.
-use Rattle.counting.proofs.Common.{Bool, List, None, Some, [], ap, arith, false, if◌then◌else◌, inl, inr, length, map, not, refl, subst, sym, true, ℕ, ◌*◌, ◌++◌, ◌+◌, ◌||◌, ◌∙◌, ◌∷◌, ◌≡◌, ◌≤◌, Option, option_and_then, option_map, rising_list-rises, true_all_in, all_in_false, nor_left, nor_right, Within, IsRisingIn, is_subset, mem, complement, union}
+use Rattle.graph_core.proofs.from_counting.Common.{Bool, List, None, Some, [], ap, arith, false, if◌then◌else◌, inl, inr, length, map, not, refl, subst, sym, true, ℕ, ◌*◌, ◌++◌, ◌+◌, ◌||◌, ◌∙◌, ◌∷◌, ◌≡◌, ◌≤◌, Option, option_and_then, option_map, rising_list-rises, true_all_in, all_in_false, nor_left, nor_right, Within, IsRisingIn, is_subset, mem, complement, union}
 use Rattle.graph_core.proofs.Common.{mem-complement_of, Apart, Graph, complement_of, merged}
 use Rattle.tree_core.proofs.Common.{IsDerivationAt, kept_at, merged_at, IsBlockOf, PlainMove, below, rotate_at, rotate_result_at, switch_at, switch_result_at, meet_list, Shape, cut, cut_count}
 use Rattle.tree_core.specs.declared.path.Side.{Side}

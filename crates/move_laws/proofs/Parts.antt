@@ -1,7 +1,7 @@
 -- A part of the leaves of a tree and what a move makes of it: the new leaves with the old numbers
 -- in their order, and for each old leaf the names that make it the same leaf as its partner.
 -- Parts are joined as trees are, and a whole one gives a pairing.
-use Rattle.counting.proofs.Common.{◌≡◌, ℕ, suc, zero, ◌+◌, ◌-◌, ◌≤◌, ◌<◌, inl, ◌==◌, List, [], ◌∷◌, ◌++◌, length, map, refl, sym, ap, ◌∙◌, arith, eq-eqb, ne_eqb, subst, subst₂, All, slice_index, slice_index_or, get_or-append-add, get_or_append_left, get_or-map, length-append, length-map, times_mem, total_at, bit, Within, last_of}
+use Rattle.graph_core.proofs.from_counting.Common.{◌≡◌, ℕ, suc, zero, ◌+◌, ◌-◌, ◌≤◌, ◌<◌, inl, ◌==◌, List, [], ◌∷◌, ◌++◌, length, map, refl, sym, ap, ◌∙◌, arith, eq-eqb, ne_eqb, subst, subst₂, All, slice_index, slice_index_or, get_or-append-add, get_or_append_left, get_or-map, length-append, length-map, times_mem, total_at, bit, Within, last_of}
 use Rattle.graph_core.proofs.Common.{rep_place, Graph, IsGraph, AreBlocks, IsPartition, block, names_of}
 use Rattle.tree_core.proofs.Common.{PlainLeafMap, leaf_at, map_at, maps_from, numbers, position}
 use Rattle.move_laws.proofs.Alignments.{Aligned, IsOrder, aligned-at, aligned-join, aligned-length, aligned-map, numbers-split, order-few, order-join, order-one, order-turn, position-once}

@@ -1,6 +1,6 @@
 -- The position of a number in a list: the number is there, and this is the only one if the list has
 -- no number twice.
-use Rattle.counting.proofs.Common.{◌≡◌, ℕ, suc, zero, ◌+◌, ◌-◌, Bool, true, false, cond, ◌==◌, ◌||◌, List, [], ◌∷◌, length, refl, sym, ap, ◌∙◌, arith, eqb-true, slice_index, both_ways, Within, mem}
+use Rattle.graph_core.proofs.from_counting.Common.{◌≡◌, ℕ, suc, zero, ◌+◌, ◌-◌, Bool, true, false, cond, ◌==◌, ◌||◌, List, [], ◌∷◌, length, refl, sym, ap, ◌∙◌, arith, eqb-true, slice_index, both_ways, Within, mem}
 use Rattle.tree_core.proofs.Common.{position}
 
 -- a number of the list is at its place

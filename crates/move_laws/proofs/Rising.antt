@@ -2,7 +2,7 @@
 -- Idea: each node of a derivation has a canonical shore, which is increasing, by induction over the
 -- tree.
 use Rattle.move_laws.specs.Common.{AreRising}
-use Rattle.counting.proofs.Common.{List, true, ℕ, ◌≡◌, mem-within, Within, IsRisingIn, mem}
+use Rattle.graph_core.proofs.from_counting.Common.{List, true, ℕ, ◌≡◌, mem-within, Within, IsRisingIn, mem}
 use Rattle.graph_core.proofs.Common.{Graph}
 use Rattle.tree_core.proofs.Common.{IsDerivationAt, kept_at, merged_at, Shape, cut, leaf}
 

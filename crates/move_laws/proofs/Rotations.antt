@@ -1,7 +1,7 @@
 -- Rotate keeps derivations and their leaves, in each of its three rows and along a path. Idea: two
 -- disjoint shores may be merged in either order, since the partition after both is the same.
 use Rattle.move_laws.specs.Common.{AreRising}
-use Rattle.counting.proofs.Common.{Bool, List, None, Option, Some, [], ap, ap₂, arith, false, if◌then◌else◌, inl, inr, not, option_map, refl, subst, sym, true, ℕ, ◌&&◌, ◌++◌, ◌∙◌, ◌∷◌, ◌≡◌, both_ways, cases_Bool, none-some, same_Some, all_in_true, Within, is_apart, is_subset, mem, Set, everything, minus}
+use Rattle.graph_core.proofs.from_counting.Common.{Bool, List, None, Option, Some, [], ap, ap₂, arith, false, if◌then◌else◌, inl, inr, not, option_map, refl, subst, sym, true, ℕ, ◌&&◌, ◌++◌, ◌∙◌, ◌∷◌, ◌≡◌, both_ways, cases_Bool, none-some, same_Some, all_in_true, Within, is_apart, is_subset, mem, Set, everything, minus}
 use Rattle.graph_core.proofs.Common.{mem-complement_of, Apart, Below, inside_or_apart, Graph, complement_of, merged}
 use Rattle.tree_core.proofs.Common.{IsDerivationAt, kept_at, merged_at, leaves_at, result_at, rotate_result_at, rotate_result_kept, rotate_result_merged, Shape, cut, cut_count, leaf}
 use Rattle.tree_core.specs.declared.path.Side.{Side}

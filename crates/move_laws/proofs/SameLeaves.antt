@@ -1,6 +1,6 @@
 -- A same leaf by names is an isomorphism by maps of vertices, and an isomorphism is a same leaf
 -- by the names of the images.
-use Rattle.counting.proofs.Common.{Bool, List, ap, ap₂, arith, eq-eqb, eqb-true, false, inl, inr, length, map, ne_eqb, not, refl, subst, subst₂, sym, true, ℕ, ◌&&◌, ◌-◌, ◌<◌, ◌==◌, ◌||◌, ◌∙◌, ◌≡◌, ◌≢◌, slice_index, and_from, and_parts, both_ways, cases_eq, get_or-map, length-map, bit_true, only_one, mem-item, some_true, true_some, some_term, total_at, Within, bit, last_of, mem, some}
+use Rattle.graph_core.proofs.from_counting.Common.{Bool, List, ap, ap₂, arith, eq-eqb, eqb-true, false, inl, inr, length, map, ne_eqb, not, refl, subst, subst₂, sym, true, ℕ, ◌&&◌, ◌-◌, ◌<◌, ◌==◌, ◌||◌, ◌∙◌, ◌≡◌, ◌≢◌, slice_index, and_from, and_parts, both_ways, cases_eq, get_or-map, length-map, bit_true, only_one, mem-item, some_true, true_some, some_term, total_at, Within, bit, last_of, mem, some}
 use Rattle.graph_core.proofs.Common.{contracted-ends, contracted-size, place_in, place_is, mem_last, has_ends-cases, Graph, IsGraph, first_end, has_ends, second_end, size, AreBlocks, block, contracted, place, blocks_adjacent}
 use Rattle.tree_core.proofs.Common.{name, position}
 use Rattle.move_laws.proofs.Images.{back_in, back_move, image_edges, move_back, move_in, moved, moved_back}

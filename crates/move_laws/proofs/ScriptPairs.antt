@@ -1,7 +1,7 @@
 -- The maps of a script pair the leaves: those of the empty script do, and a pairing composed with
 -- the pairing of a move is a pairing.
 use Rattle.move_laws.specs.Common.{AreRising, IsProperScript, IsPairing, IsSameLeaf, image}
-use Rattle.counting.proofs.Common.{◌≡◌, ℕ, ◌-◌, ◌<◌, Bool, true, ◌==◌, List, [], ◌∷◌, length, map, unwrap_or, sym, ap, ap₂, ◌∙◌, arith, eq-eqb, ne_eqb, eqb-true, subst, get_or-map, length-map, bit_true, count_congr, only_one, some_term, total_at, Within, bit, count, last_of}
+use Rattle.graph_core.proofs.from_counting.Common.{◌≡◌, ℕ, ◌-◌, ◌<◌, Bool, true, ◌==◌, List, [], ◌∷◌, length, map, unwrap_or, sym, ap, ap₂, ◌∙◌, arith, eq-eqb, ne_eqb, eqb-true, subst, get_or-map, length-map, bit_true, count_congr, only_one, some_term, total_at, Within, bit, count, last_of}
 use Rattle.graph_core.proofs.Common.{Graph, block, names_of, place, singles, blocks_adjacent}
 use Rattle.tree_core.proofs.Common.{IsDerivationAt, PlainLeafMap, leaf_at, map_at, maps_after, move_maps, name, numbers, own_maps, script_maps, then_map, leaves, PlainMove, move_result, Shape, leaf_count}
 use Rattle.move_laws.proofs.BigShores.{Stage}

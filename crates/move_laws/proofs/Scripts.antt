@@ -1,7 +1,7 @@
 -- Proper scripts: scripts of proper moves through derivations at a partition, one after the
 -- other, and below a side of a cut.
 use Rattle.move_laws.specs.Common.{AreRising, IsProperScript}
-use Rattle.counting.proofs.Common.{List, Some, [], ap, arith, length, map, option_map, refl, subst, sym, ℕ, ◌++◌, ◌+◌, ◌∙◌, ◌∷◌, ◌≡◌, none-some}
+use Rattle.graph_core.proofs.from_counting.Common.{List, Some, [], ap, arith, length, map, option_map, refl, subst, sym, ℕ, ◌++◌, ◌+◌, ◌∙◌, ◌∷◌, ◌≡◌, none-some}
 use Rattle.graph_core.proofs.Common.{Graph}
 use Rattle.tree_core.proofs.Common.{IsDerivationAt, kept_at, merged_at, below, IsProper, PlainMove, move_result, rotate_at, rotate_result_at, switch_at, Shape, cut, cut_count}
 use Rattle.tree_core.specs.declared.path.Side.{Side}

@@ -1,6 +1,6 @@
 -- The images of blocks under a Switch: the lists that the table of the maps gives are the blocks
 -- that the exchange of blocks takes them to, so their last numbers are the names of the images.
-use Rattle.counting.proofs.Common.{◌≡◌, ℕ, Bool, true, false, cond, ◌||◌, ◌&&◌, not, List, length, refl, sym, ap, ap₂, ◌∙◌, arith, same_tests, or_right, mem-rising_list, rising_list-rises, same_rising_list, Within, IsRisingIn, is_subset, last_of, mem, complement, meet, minus, union}
+use Rattle.graph_core.proofs.from_counting.Common.{◌≡◌, ℕ, Bool, true, false, cond, ◌||◌, ◌&&◌, not, List, length, refl, sym, ap, ap₂, ◌∙◌, arith, same_tests, or_right, mem-rising_list, rising_list-rises, same_rising_list, Within, IsRisingIn, is_subset, last_of, mem, complement, meet, minus, union}
 use Rattle.graph_core.proofs.Common.{rep, rep_in, rep_place, place_in, place_is, mem-complement_of, alike_in, alike_up, block_has, block_rises, Graph, IsGraph, AreBlocks, block, complement_of, place, IsUnion}
 use Rattle.tree_core.proofs.Common.{kept_at, merged_at, kept_image, merged_image, inner_rest, list_if, meet_list, outer_rest, union_list}
 use Rattle.move_laws.proofs.BigShores.{Stage}

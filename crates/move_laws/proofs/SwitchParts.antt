@@ -1,7 +1,7 @@
 -- The leaves under a Switch, at its node: those of the two trees, in the order and by the names
 -- that the maps give.
 use Rattle.move_laws.specs.Common.{AreRising, Corner, carry}
-use Rattle.counting.proofs.Common.{◌≡◌, ℕ, ◌+◌, Bool, true, false, cond, ◌||◌, ◌&&◌, not, List, [], ◌++◌, map, if◌then◌else◌, refl, sym, ap, ap₂, ◌∙◌, arith, subst, and_parts, not-true, mem-rising_list, all_in_true, Within, IsRisingIn, is_subset, last_of, mem, Set, complement, minus, union}
+use Rattle.graph_core.proofs.from_counting.Common.{◌≡◌, ℕ, ◌+◌, Bool, true, false, cond, ◌||◌, ◌&&◌, not, List, [], ◌++◌, map, if◌then◌else◌, refl, sym, ap, ap₂, ◌∙◌, arith, subst, and_parts, not-true, mem-rising_list, all_in_true, Within, IsRisingIn, is_subset, last_of, mem, Set, complement, minus, union}
 use Rattle.graph_core.proofs.Common.{tight_congr, tight_rest, mem-complement_of, Graph, IsMerge, complement_of, IsTightAt, IsUnion}
 use Rattle.tree_core.proofs.Common.{length-leaves_at, IsCutAt, IsDerivationAt, kept_at, merged_at, kept_image, kept_order_if_greatest_stays, merged_image, numbers, switch_names, switch_order, leaves_at, IsBlockOf, inner_rest, is_proper, kept_if_greatest_stays, kept_if_greatest_comes, merged_if_greatest_stays, merged_if_greatest_comes, outer_rest, union_list, Shape, cut, leaf, leaf_count}
 use Rattle.move_laws.proofs.Alignments.{numbers-split}

@@ -1,7 +1,7 @@
 -- A proper Switch keeps derivations. Idea: in each of its four rows the exchange law gives
 -- partitions that are the same leaf, and the subtrees are carried along the names of the blocks.
 use Rattle.move_laws.specs.Common.{AreRising, Corner, Isomorphism, carry, carry_cut}
-use Rattle.counting.proofs.Common.{Bool, List, ap, ap₂, arith, cond, false, if◌then◌else◌, not, refl, subst, sym, true, ℕ, ◌&&◌, ◌||◌, ◌∙◌, ◌≡◌, both_ways, cases_Bool, mem-rising_list, rising_list-rises, same_rising_list, true_all_in, all_in_true, Within, IsRisingIn, all_in, is_subset, mem, rising_list, Set, minus, union}
+use Rattle.graph_core.proofs.from_counting.Common.{Bool, List, ap, ap₂, arith, cond, false, if◌then◌else◌, not, refl, subst, sym, true, ℕ, ◌&&◌, ◌||◌, ◌∙◌, ◌≡◌, both_ways, cases_Bool, mem-rising_list, rising_list-rises, same_rising_list, true_all_in, all_in_true, Within, IsRisingIn, all_in, is_subset, mem, rising_list, Set, minus, union}
 use Rattle.graph_core.proofs.Common.{mem-complement_of, alike_in, alike_up, closed_up, Graph, IsMerge, complement_of, merged, IsUnion}
 use Rattle.tree_core.proofs.Common.{IsDerivationAt, kept_at, merged_at, inner_rest, kept_if_greatest_stays, kept_if_greatest_comes, list_if, merged_if_greatest_stays, merged_if_greatest_comes, merged_shore_if_greatest_stays, minus_list, outer_rest, union_list, Shape, cut, leaf}
 use Rattle.move_laws.proofs.BigShores.{Big, Stage, big_cut, big_merge, big_rest, big_some, cut_big, stage_merged}

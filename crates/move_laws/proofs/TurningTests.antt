@@ -1,6 +1,6 @@
 -- What the steps of a turning ask of the tree: tests of two shores, the two forms of Rotate in
 -- `merged`, and the shape of a carried tree.
-use Rattle.counting.proofs.Common.{Bool, List, None, Some, [], ap, arith, false, if◌then◌else◌, not, refl, true, ℕ, ◌&&◌, ◌∙◌, ◌≡◌, rising_list-rises, true_all_in, IsRisingIn, is_apart, is_subset, mem, everything, minus}
+use Rattle.graph_core.proofs.from_counting.Common.{Bool, List, None, Some, [], ap, arith, false, if◌then◌else◌, not, refl, true, ℕ, ◌&&◌, ◌∙◌, ◌≡◌, rising_list-rises, true_all_in, IsRisingIn, is_apart, is_subset, mem, everything, minus}
 use Rattle.graph_core.proofs.Common.{Apart}
 use Rattle.tree_core.proofs.Common.{is_proper, rotate_result_at, Shape, cut, cut_count, leaf}
 use Rattle.tree_core.specs.declared.path.Side.TheVariants.{Merged}

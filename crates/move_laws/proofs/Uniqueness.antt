@@ -2,7 +2,7 @@
 -- graph are joined by few moves (Lovász 1987).
 use Rattle.move_laws.specs.Common.{AreRising, IsProperScript, IsPairing}
 use Rattle.std.proofs.Common.{List, [], length, ℕ, ◌*◌, ◌+◌, ◌∷◌, ◌≡◌, ◌≤◌, Some as Just}
-use Rattle.counting.proofs.Common.{IsRisingIn, none-some}
+use Rattle.graph_core.proofs.from_counting.Common.{IsRisingIn, none-some}
 use Rattle.graph_core.proofs.Common.{IsCovered, Graph, IsGraph, singles}
 use Rattle.tree_core.proofs.Common.{IsCutAt, IsDerivation, IsDerivationAt, PlainMove, TurnsThrough, Shape, cut, cut_count, PlainLeafMap, move_maps, script_maps, leaves, IsProper, last_step, move_result, parent_path, rotate_result, rotate_result_at}
 use Rattle.move_laws.proofs.BigShores.{Stage, cut_big}

@@ -2,7 +2,7 @@
 -- complement of their union.
 -- Stated by: uncross. Used by: move_laws.
 use Rattle.std.specs.Prelude.{ℕ, List, if◌then◌else◌}
-use Rattle.counting.specs.Common.{is_odd, mem, rising_list, complement, meet, union}
+use Rattle.graph_core.specs.from_counting.Common.{is_odd, mem, rising_list, complement, meet, union}
 use Rattle.graph_core.specs.Common.{complement_of, block_count}
 
 -- the outer corner: the complement of x ∪ z

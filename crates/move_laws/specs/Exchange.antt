@@ -1,7 +1,7 @@
 -- The exchange of two blocks between a tight shore and its complement.
 -- Stated by: move_laws.
 use Rattle.std.specs.Prelude.{◌≡◌, ℕ, true, false, List}
-use Rattle.counting.specs.Common.{Within, Set, union, minus, complement}
+use Rattle.graph_core.specs.from_counting.Common.{Within, Set, union, minus, complement}
 use Rattle.graph_core.specs.Common.{Graph, IsTightAt}
 use Rattle.tree_core.specs.Common.{IsBlockOf}
 

@@ -2,7 +2,7 @@
 -- direction; the images of shores; and trees of cuts carried along these maps.
 -- Stated by: move_laws.
 use Rattle.std.specs.Prelude.{◌≡◌, ℕ, ◌≢◌, Bool, List, not, cond, ◌⊎◌}
-use Rattle.counting.specs.Common.{Within, Set, mem, rising_list}
+use Rattle.graph_core.specs.from_counting.Common.{Within, Set, mem, rising_list}
 use Rattle.graph_core.specs.Common.{Graph, size, first_end, second_end, place}
 use Rattle.tree_core.specs.Common.{Shape, leaf, cut}
 

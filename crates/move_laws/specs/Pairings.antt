@@ -2,7 +2,7 @@
 -- the same leaf.
 -- Stated by: move_laws, uncross. Used by: mcg6_lines, bench_outcomes, theorems.
 use Rattle.std.specs.Prelude.{◌≡◌, ℕ, ◌==◌, List, length}
-use Rattle.counting.specs.Common.{count, Within}
+use Rattle.graph_core.specs.from_counting.Common.{count, Within}
 use Rattle.graph_core.specs.Common.{Graph}
 use Rattle.tree_core.specs.Common.{PlainLeafMap, map_at, leaf_at}
 use Rattle.move_laws.specs.SameLeaf.{IsSameLeaf}

@@ -2,7 +2,7 @@
 -- adjacency is preserved (Lovász 1987, "up to multiplicities of edges").
 -- Stated by: move_laws. Used by: uncross, mcg6_lines, theorems.
 use Rattle.std.specs.Prelude.{◌≡◌, ℕ, ◌==◌, List, length, map}
-use Rattle.counting.specs.Common.{count, Within, last_of, mem, rising_list}
+use Rattle.graph_core.specs.from_counting.Common.{count, Within, last_of, mem, rising_list}
 use Rattle.graph_core.specs.Common.{Graph, block, place, blocks_adjacent}
 use Rattle.tree_core.specs.Common.{name, position}
 

@@ -1,7 +1,7 @@
 -- Proper scripts: scripts of proper moves through derivations at a partition.
 -- Stated by: uncross. Used by: move_laws, theorems.
 use Rattle.std.specs.Prelude.{◌≡◌, ℕ, List, [], ◌∷◌, Some}
-use Rattle.counting.specs.Common.{IsRisingIn}
+use Rattle.graph_core.specs.from_counting.Common.{IsRisingIn}
 use Rattle.graph_core.specs.Common.{Graph}
 use Rattle.tree_core.specs.Common.{IsDerivationAt, IsProper, PlainMove, move_result, Shape, leaf, cut, cut_count}
 

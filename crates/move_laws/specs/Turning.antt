@@ -2,7 +2,7 @@
 -- its two subtrees: partial functions on plain trees, with the moves that they make.
 -- Stated by: uncross. Used by: move_laws.
 use Rattle.std.specs.Prelude.{ℕ, List, [], ◌∷◌, ◌++◌, map, Option, Some, None, option_map, option_and_then, if◌then◌else◌}
-use Rattle.counting.specs.Common.{is_subset}
+use Rattle.graph_core.specs.from_counting.Common.{is_subset}
 use Rattle.tree_core.specs.Common.{PlainMove, below, rotate_at, rotate_result_at, switch_at, switch_result_at, Shape, leaf, cut}
 use Rattle.tree_core.specs.declared.path.Side.{Side}
 use Rattle.tree_core.specs.declared.path.Side.TheVariants.{Kept, Merged}

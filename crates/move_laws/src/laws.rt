@@ -1,6 +1,6 @@
 //! Laws of moves on derivations. Each law is the contract of a function that does nothing.
 ghost use Rattle.std.specs.Prelude.{◌≡◌, ◌+◌, ◌*◌, ◌<◌, ◌≤◌, ◌↔◌, ℕ, Some, List, [], length, map};
-ghost use Rattle.counting.specs.Common.{Within, IsRisingIn, last_of, mem, Set};
+ghost use Rattle.graph_core.specs.from_counting.Common.{Within, IsRisingIn, last_of, mem, Set};
 ghost use Rattle.graph_core.specs.Common.{IsCovered, Graph, IsGraph, IsPartition, contracted, merged, singles, IsTightAt, IsUnion, blocks_in, IsNontrivial};
 ghost use Rattle.tree_core.specs.Common.{IsCutAt, IsDerivation, IsDerivationAt, kept_at, merged_at, PlainLeafMap, kept_image, merged_image, move_maps, StandsAt, leaves, BlocksAt, IsProper, PlainMove, TurnsThrough, inner_rest, move_result, outer_rest, rotate_result, switch_result_at, union_list, Fits, Shape, cut, cut_count};
 ghost use Rattle.tree_core.specs.declared.path.Side.{Side};

@@ -16,3 +16,7 @@
 #![tactic(auto)]
 
 pub mod laws;
+
+// Passed on to the crates above.
+pub use tree_core;
+pub use tree_core::{contraction, graph_facts};

@@ -2,10 +2,10 @@
 -- commas is the decimal of one vertex.
 use Rattle.counting.proofs.Common.{◌≡◌, ◌≤◌, ◌<◌, ◌||◌, ◌^◌, not, nat_le, ℕ, suc, List, [], ◌∷◌, Bool, length, map, true, false, refl, ◌∙◌, ap, arith, All, decimal, decimal_nonempty, list_all-append, slice_split_at, slice_split_none, list_all, and_from, and_parts, not-true, le-leb, nat_tests, length-map, length-append, append-nil, All-nil, All-cons}
 use Rattle.std.specs.List.{All as AllOf, slice_split}
-use Rattle.line_text.specs.Common.{is_line_feed, is_blank, is_word}
-use Rattle.line_text.proofs.Decimals.{digits-decimal, is_word-decimal, list_all-digits, nonempty}
-use Rattle.tree_core.specs.declared.path.Side.{Side}
-use Rattle.tree_core.specs.declared.path.Side.TheVariants.{Kept, Merged}
+use Rattle.tree_text.specs.from_line_text.Common.{is_line_feed, is_blank, is_word}
+use Rattle.tree_text.proofs.from_line_text.Decimals.{digits-decimal, is_word-decimal, list_all-digits, nonempty}
+use Rattle.tree_text.specs.from_tree_core.declared.path.Side.{Side}
+use Rattle.tree_text.specs.from_tree_core.declared.path.Side.TheVariants.{Kept, Merged}
 use Rattle.move_text.specs.Common.{is_step, side_of, is_path_word, path_of, is_comma, parts_of, most_steps, letter_of, path_word, behind_commas, set_word}
 
 -- the letters of steps write these steps

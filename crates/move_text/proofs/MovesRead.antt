@@ -2,11 +2,11 @@
 -- the limits, and their sets are nonempty, increasing and within 1 to n: each line keeps this,
 -- since it passed the tests of the table.
 use Rattle.counting.proofs.Common.{◌≡◌, ◌≤◌, ◌<◌, ◌&&◌, ◌||◌, ◌^◌, codes, not, nat_le, if◌then◌else◌, ℕ, List, [], ◌∷◌, ◌++◌, Bool, length, true, false, Option, Some, None, Result, Ok, Err, IfOk, refl, sym, ◌∙◌, ap, subst, arith, length-slice_split, AllByRecursion, list_all, list_any, and_parts, or_parts, not-false, nat_tests, length-map, length-append}
-use Rattle.line_text.specs.Common.{Begins, Stands, finish, has_form, word_at, value_of, is_out_of_range}
-use Rattle.line_text.proofs.Tables.{all_passed, no_value, value_or}
-use Rattle.line_text.specs.declared.faults.FaultKind.{FaultKind}
-use Rattle.line_text.specs.declared.faults.FaultKind.TheVariants as kind
-use Rattle.tree_core.proofs.Common.{PlainMove, switch_at}
+use Rattle.tree_text.specs.from_line_text.Common.{Begins, Stands, finish, has_form, word_at, value_of, is_out_of_range}
+use Rattle.tree_text.proofs.from_line_text.Tables.{all_passed, no_value, value_or}
+use Rattle.tree_text.specs.from_line_text.declared.faults.FaultKind.{FaultKind}
+use Rattle.tree_text.specs.from_line_text.declared.faults.FaultKind.TheVariants as kind
+use Rattle.tree_text.proofs.from_tree_core.Common.{PlainMove, switch_at}
 use Rattle.tree_text.specs.Common.{is_rising}
 use Rattle.tree_text.proofs.ShoreLists.{rising_read}
 use Rattle.move_text.specs.Common.{move_format, move_line, rotate_line, switch_line, is_rotate_line, is_switch_line, is_path_word, is_comma, path_of, parts_of, are_numbers, vertices_of, most_moves, most_steps, HasShortPath, HasSets, SetsRise, IsWritable}

@@ -1,12 +1,12 @@
 -- The text written for moves is read as these moves. The header leads to no moves, and the line of
 -- a move adds it to the moves before, since no test of the table applies.
 use Rattle.counting.proofs.Common.{◌≡◌, ◌+◌, ◌≤◌, ◌<◌, ◌^◌, codes, nat_le, ℕ, List, [], ◌∷◌, ◌++◌, All, length, map, true, false, Some, Ok, refl, ap, subst, arith, append_assoc, AllByRecursion, list_all, list_any, nat_tests, append-nil, length-append, Within}
-use Rattle.line_text.specs.Common.{Begins, Stands, has_form, is_word, IsSignificant, is_number, is_out_of_range}
-use Rattle.line_text.proofs.Decimals.{number_of-decimal, is_word-decimal, numbers-decimal, values-decimal}
-use Rattle.line_text.proofs.ReadBack.{Stands-written}
-use Rattle.line_text.proofs.InRange.{in_range-tests, few-digits}
-use Rattle.tree_core.proofs.Common.{PlainMove, rotate_at, switch_at}
-use Rattle.tree_core.specs.declared.path.Side.{Side}
+use Rattle.tree_text.specs.from_line_text.Common.{Begins, Stands, has_form, is_word, IsSignificant, is_number, is_out_of_range}
+use Rattle.tree_text.proofs.from_line_text.Decimals.{number_of-decimal, is_word-decimal, numbers-decimal, values-decimal}
+use Rattle.tree_text.proofs.from_line_text.ReadBack.{Stands-written}
+use Rattle.tree_text.proofs.from_line_text.InRange.{in_range-tests, few-digits}
+use Rattle.tree_text.proofs.from_tree_core.Common.{PlainMove, rotate_at, switch_at}
+use Rattle.tree_text.specs.from_tree_core.declared.path.Side.{Side}
 use Rattle.tree_text.proofs.TreeReadBack.{rising-tests}
 use Rattle.move_text.specs.Common.{move_format, is_rotate_line, is_switch_line, is_path_word, path_of, are_numbers, vertices_of, most_moves, most_steps, header_words, path_word, set_word, move_words, moves_text, HasShortPath, HasSets, SetsRise, IsWritable}
 use Rattle.move_text.proofs.MoveWords.{is_path_word-path_word, path_of-path_word, is_word-path_word, parts_of-set_word, is_word-set_word}

@@ -2,9 +2,9 @@
 -- are those of the first i and one more, and what is true of each move is carried along.
 use Rattle.std.proofs.Common.{◌≡◌, ◌+◌, ◌≤◌, ◌<◌, ℕ, zero, suc, List, [], ◌∷◌, get_or, length, map, take, take_all, refl, sym, ap, subst, arith}
 use Rattle.counting.proofs.Common.{AllByRecursion}
-use Rattle.line_text.specs.Common.{written}
-use Rattle.tree_core.specs.declared.moves.Move.{Move}
-use Rattle.tree_core.proofs.Common.{PlainMove, move_of, moves_of}
+use Rattle.tree_text.specs.from_line_text.Common.{written}
+use Rattle.tree_text.specs.from_tree_core.declared.moves.Move.{Move}
+use Rattle.tree_text.proofs.from_tree_core.Common.{PlainMove, move_of, moves_of}
 use Rattle.move_text.specs.Common.{move_words, header_words, moves_text}
 
 -- all moves

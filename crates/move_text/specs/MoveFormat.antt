@@ -5,12 +5,12 @@
 -- Stated by: move_text, bench_tasks, bench_reports. Used by: bench_outcomes, bench_top, theorems.
 use Rattle.std.specs.Prelude.{ℕ, ◌==◌, ◌&&◌, ◌||◌, not, nat_le, Bool, List, [], ◌∷◌, ◌++◌, length, map, codes, Result, Ok, Err, if◌then◌else◌, bytes_eq}
 use Rattle.std.specs.List.{list_all, list_any, slice_split}
-use Rattle.line_text.specs.Common.{Rules, checked, has_form, word_at, is_number, value_of, is_out_of_range}
-use Rattle.line_text.specs.declared.faults.FaultKind.{FaultKind}
-use Rattle.line_text.specs.declared.faults.FaultKind.TheVariants as kind
-use Rattle.tree_core.specs.Common.{PlainMove, rotate_at, switch_at}
-use Rattle.tree_core.specs.declared.path.Side.{Side}
-use Rattle.tree_core.specs.declared.path.Side.TheVariants.{Kept, Merged}
+use Rattle.tree_text.specs.from_line_text.Common.{Rules, checked, has_form, word_at, is_number, value_of, is_out_of_range}
+use Rattle.tree_text.specs.from_line_text.declared.faults.FaultKind.{FaultKind}
+use Rattle.tree_text.specs.from_line_text.declared.faults.FaultKind.TheVariants as kind
+use Rattle.tree_text.specs.from_tree_core.Common.{PlainMove, rotate_at, switch_at}
+use Rattle.tree_text.specs.from_tree_core.declared.path.Side.{Side}
+use Rattle.tree_text.specs.from_tree_core.declared.path.Side.TheVariants.{Kept, Merged}
 use Rattle.tree_text.specs.Common.{is_rising}
 
 -- the most moves

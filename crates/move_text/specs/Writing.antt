@@ -4,10 +4,10 @@ use Rattle.std.specs.Prelude.{ℕ, ◌≤◌, ◌<◌, ◌^◌, List, [], ◌∷
 use Rattle.std.specs.List.{AllByRecursion}
 use Rattle.std.specs.List.Sorted.{IsStrictlyIncreasing}
 use Rattle.counting.specs.Common.{Within}
-use Rattle.line_text.specs.Common.{written}
-use Rattle.tree_core.specs.Common.{PlainMove, rotate_at, switch_at}
-use Rattle.tree_core.specs.declared.path.Side.{Side}
-use Rattle.tree_core.specs.declared.path.Side.TheVariants.{Kept, Merged}
+use Rattle.tree_text.specs.from_line_text.Common.{written}
+use Rattle.tree_text.specs.from_tree_core.Common.{PlainMove, rotate_at, switch_at}
+use Rattle.tree_text.specs.from_tree_core.declared.path.Side.{Side}
+use Rattle.tree_text.specs.from_tree_core.declared.path.Side.TheVariants.{Kept, Merged}
 use Rattle.move_text.specs.MoveFormat.{most_moves, most_steps}
 
 -- the words of the header

@@ -1,7 +1,7 @@
 //! Laws of the texts of moves. Each law is the contract of a function that does nothing.
 ghost use Rattle.std.specs.Prelude.{◌<◌, ◌^◌, ℕ, List};
-ghost use Rattle.line_text.specs.Common.{Stands, StandsAlone};
-ghost use Rattle.tree_core.specs.Common.{PlainMove};
+ghost use Rattle.tree_text.specs.from_line_text.Common.{Stands, StandsAlone};
+ghost use Rattle.tree_text.specs.from_tree_core.Common.{PlainMove};
 ghost use Rattle.move_text.specs.Common.{move_format, moves_text, IsWritable};
 
 /// The text written for moves stands for these moves and for no others, and has no error.

@@ -17,5 +17,8 @@ mod move_format;
 mod move_words;
 mod writing;
 
+// Passed on to the crates above.
 pub use move_format::read_moves;
+pub use tree_text;
+pub use tree_text::tree_core;
 pub use writing::{push_move, write_moves};

@@ -1,19 +1,19 @@
 //! The move format.
 ghost use Rattle.std.specs.Prelude.{◌≡◌, ◌<◌, ◌≤◌, ◌-◌, ◌^◌, ◌++◌, ◌∷◌, [], ℕ, List, length, IfOk, IfErr, Ok, Err};
-ghost use Rattle.line_text.specs.Common.{Gives, Stands, FirstFault, texts_of, IsFirstFault, ReadsText};
-ghost use Rattle.line_text.specs.declared.faults.FaultKind.{FaultKind};
-ghost use Rattle.tree_core.specs.Common.{PlainMove, switch_at, moves_of};
+ghost use Rattle.tree_text.specs.from_line_text.Common.{Gives, Stands, FirstFault, texts_of, IsFirstFault, ReadsText};
+ghost use Rattle.tree_text.specs.from_line_text.declared.faults.FaultKind.{FaultKind};
+ghost use Rattle.tree_text.specs.from_tree_core.Common.{PlainMove, switch_at, moves_of};
 ghost use Rattle.move_text.specs.MoveFormat.{move_format, moves_header, move_line, path_of, switch_line};
 ghost use Rattle.move_text.specs.Writing.{IsWritable};
 
 use crate::move_words::{is_rotate, is_switch, read_path, read_vertices};
-use line_text::{
+use std::alloc::Global;
+use tree_text::line_text::{
     FaultKind, LineFormat, Refusal, TextFault, has_form, has_out_of_range, number, read_text, word,
 };
-use std::alloc::Global;
-use tree_core::{Move, Moves};
 use tree_text::shores::{rise, shore_of};
-use vset_core::{MOST_VERTICES, VSet};
+use tree_text::tree_core::{Move, Moves};
+use tree_text::vset_core::{MOST_VERTICES, VSet};
 
 const MOST_MOVES: usize = 20_000;
 

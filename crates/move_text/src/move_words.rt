@@ -1,12 +1,12 @@
 //! The words of a move: its path, and its sets.
 ghost use Rattle.std.specs.Prelude.{◌≡◌, IfOk, map, option_map};
 ghost use Rattle.std.specs.List.{list_all};
-ghost use Rattle.line_text.specs.Common.{numbers_of, texts_of};
+ghost use Rattle.tree_text.specs.from_line_text.Common.{numbers_of, texts_of};
 ghost use Rattle.move_text.specs.Common.{is_path_word, is_step, path_of, side_of, parts_of, is_rotate_line, is_switch_line};
 
-use line_text::{has_form, numbers, word};
 use std::alloc::{AllocError as Memory, Global};
-use tree_core::{Path, Side};
+use tree_text::line_text::{has_form, numbers, word};
+use tree_text::tree_core::{Path, Side};
 
 const MOST_STEPS: usize = 127;
 

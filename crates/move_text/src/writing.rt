@@ -1,13 +1,13 @@
 //! Writing moves.
 ghost use Rattle.std.specs.Prelude.{◌≡◌, ◌≤◌, ◌++◌, [], ◌∷◌, length, map, OnOk, IfOk, string_bytes};
 ghost use Rattle.std.specs.List.{AllByRecursion};
-ghost use Rattle.line_text.specs.Common.{Stands, StandsAlone, written};
-ghost use Rattle.tree_core.specs.Common.{move_of, moves_of, rotate_at, switch_at};
+ghost use Rattle.tree_text.specs.from_line_text.Common.{Stands, StandsAlone, written};
+ghost use Rattle.tree_text.specs.from_tree_core.Common.{move_of, moves_of, rotate_at, switch_at};
 ghost use Rattle.move_text.specs.Common.{move_format, most_moves, letter_of, path_word, set_word, move_words, moves_text, HasShortPath, HasSets, SetsRise};
 
 use std::alloc::{AllocError as Memory, Global};
-use tree_core::{Move, Moves, Path, Side};
-use vset_core::VSet;
+use tree_text::tree_core::{Move, Moves, Path, Side};
+use tree_text::vset_core::VSet;
 
 // The letters of steps.
 fn push_steps(text: &mut String, steps: &[Side]) -> Result<(), Memory>

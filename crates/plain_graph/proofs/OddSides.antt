@@ -1,6 +1,6 @@
 -- A number is odd where division by two leaves one, and what is outside of a set is the order
 -- less what is inside.
-use Rattle.counting.proofs.Common.{◌≡◌, ℕ, ◌-◌, ◌%◌, ◌==◌, ◌&&◌, arith, eq-eqb, ne_eqb, count, is_odd, Set, complement, count_complement, is_odd_remainder}
+use Rattle.allowed_edges.proofs.from_counting.Common.{◌≡◌, ℕ, ◌-◌, ◌%◌, ◌==◌, ◌&&◌, arith, eq-eqb, ne_eqb, count, is_odd, Set, complement, count_complement, is_odd_remainder}
 
 -- with an odd number inside, both sides are odd where the rest is
 pub odd_sides-rest : (n k m : ℕ) (x : Set) → k ≡ count n x → m ≡ n → k % 2 ≡ 1 → ((m - k) % 2 == 1) ≡ (is_odd (count n x) && is_odd (count n (complement x)))

@@ -1,6 +1,6 @@
 -- A graph whose edges are the first k pairs of a list: it is a multigraph within the limits, so
 -- each of these pairs is two different vertices, and they are no more than a graph may have.
-use Rattle.counting.proofs.Common.{◌≡◌, ℕ, ◌-◌, ◌<◌, ◌≤◌, List, length, take, suc, sym, ap, ◌∙◌, subst, arith, get_or-take, length-take-le, Within}
+use Rattle.allowed_edges.proofs.from_counting.Common.{◌≡◌, ℕ, ◌-◌, ◌<◌, ◌≤◌, List, length, take, suc, sym, ap, ◌∙◌, subst, arith, get_or-take, length-take-le, Within}
 use Rattle.graph_core.proofs.Common.{Graph, IsMultigraph, size, IsWithinLimits}
 use Rattle.plain_graph.specs.EdgeFaults.{IsReachedPair, JoinsTwo, pair_at}
 

@@ -1,6 +1,6 @@
 -- The vertices that walks with one more step reach, and those that a walk of as many steps as there
 -- are vertices reaches.
-use Rattle.counting.proofs.Common.{◌≡◌, ℕ, ◌+◌, ◌&&◌, ◌||◌, ◌==◌, not, true, false, ap, sym, ◌∙◌, arith, List, [], length, Option, unwrap_or, nat_lt, ltb-true, lt-ltb, eq-eqb, ne_eqb, inl, inr, IfSome, IfNone, not_from_false, and_from, and_parts, and_right, both_ways, cases_eq, cases_lt, false_from_ne_true, count_congr, count_mem_length, set-narrower, some_congr, some_true, true_some, Within, count, IsLeastOf, IsRisingIn, mem, Set, some}
+use Rattle.allowed_edges.proofs.from_counting.Common.{◌≡◌, ℕ, ◌+◌, ◌&&◌, ◌||◌, ◌==◌, not, true, false, ap, sym, ◌∙◌, arith, List, [], length, Option, unwrap_or, nat_lt, ltb-true, lt-ltb, eq-eqb, ne_eqb, inl, inr, IfSome, IfNone, not_from_false, and_from, and_parts, and_right, both_ways, cases_eq, cases_lt, false_from_ne_true, count_congr, count_mem_length, set-narrower, some_congr, some_true, true_some, Within, count, IsLeastOf, IsRisingIn, mem, Set, some}
 use Rattle.graph_core.proofs.Common.{is_least, Graph, adjacent, joined, reaches, flood_own}
 
 -- one step more

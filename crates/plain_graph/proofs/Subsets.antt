@@ -2,7 +2,7 @@
 -- without n come first, then the same sets with n added. So a test that passes for a set passes for
 -- an item of the list.
 use Rattle.std.proofs.Common.{◌≡◌, ℕ, suc, zero, ◌+◌, ◌≤◌, ◌<◌, Bool, true, false, ◌==◌, ◌||◌, refl, sym, ap, ap₂, ◌∙◌, arith, List, [], ◌∷◌, ◌++◌, length, map, filter, get_or, subst, cond, append-nil, eq-eqb, ne_eqb, All, Contains}
-use Rattle.counting.proofs.Common.{All-append, All-weaker, Contains-append_left, Contains-append_right, Contains-push, or_right, get_or-map, length-map, All-cons, All-map, All-nil, rising_list-congr, rising_list-mem, rising_list-rises, same_rising_list, set-none, set-wider, mem-append, or_false, IsRisingIn, mem, rising_list, Set}
+use Rattle.allowed_edges.proofs.from_counting.Common.{All-append, All-weaker, Contains-append_left, Contains-append_right, Contains-push, or_right, get_or-map, length-map, All-cons, All-map, All-nil, rising_list-congr, rising_list-mem, rising_list-rises, same_rising_list, set-none, set-wider, mem-append, or_false, IsRisingIn, mem, rising_list, Set}
 use Rattle.plain_graph.specs.Subsets.{subsets}
 
 -- the next number at the end of an increasing list is the next number in its set

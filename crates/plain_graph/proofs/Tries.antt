@@ -1,6 +1,6 @@
 -- What trying all sets of edges says about the tests that quantify over sets: a matching is on the
 -- list as its increasing list, and a test of a set of edges depends only on the edges.
-use Rattle.counting.proofs.Common.{◌≡◌, ℕ, ◌+◌, ◌≤◌, ◌<◌, ◌==◌, ◌&&◌, true, false, not, refl, sym, ap, ap₂, ◌∙◌, arith, List, [], length, get_or, eq-eqb, eqb-true, ne_eqb, subst, inl, inr, max, All, Contains, get_or_default, All-filter, filter_passes, Any-from_list_any, list_any_at, AllPass-from_list_all, list_all-from_AllPass, same_tests, and_from, and_left, and_parts, both_ways, cases_Bool, cases_eq, cases_lt, false_from_ne_true, count_mem_length, set_found, count_congr, length-rising_list, mem-rising_list, every_true, total_none, list_all, list_any, Within, count, is_odd, IsRisingIn, mem, rising_list, Set, complement, none, every}
+use Rattle.allowed_edges.proofs.from_counting.Common.{◌≡◌, ℕ, ◌+◌, ◌≤◌, ◌<◌, ◌==◌, ◌&&◌, true, false, not, refl, sym, ap, ap₂, ◌∙◌, arith, List, [], length, get_or, eq-eqb, eqb-true, ne_eqb, subst, inl, inr, max, All, Contains, get_or_default, All-filter, filter_passes, Any-from_list_any, list_any_at, AllPass-from_list_all, list_all-from_AllPass, same_tests, and_from, and_left, and_parts, both_ways, cases_Bool, cases_eq, cases_lt, false_from_ne_true, count_mem_length, set_found, count_congr, length-rising_list, mem-rising_list, every_true, total_none, list_all, list_any, Within, count, is_odd, IsRisingIn, mem, rising_list, Set, complement, none, every}
 use Rattle.graph_core.proofs.Common.{Graph, edges_in_cut, size, IsMatching, IsPerfect, has_matching_of, has_perfect, is_allowed, is_matching, is_perfect, is_tight, has_perfect_found, has_perfect_says, is_allowed_found, is_allowed_says, is_matching_congr, is_perfect_congr, is_perfect_true, is_tight_found, is_tight_says, none_matching, true_is_matching, true_is_perfect}
 use Rattle.plain_graph.specs.Cuts.{has_odd_sides}
 use Rattle.plain_graph.specs.Subsets.{perfect_matchings_of, subsets}

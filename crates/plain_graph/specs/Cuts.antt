@@ -1,7 +1,7 @@
 -- Shores with two odd sides.
 -- Stated by: plain_graph.
 use Rattle.std.specs.Prelude.{Bool, ◌&&◌}
-use Rattle.counting.specs.Common.{count, is_odd, Set, complement}
+use Rattle.allowed_edges.specs.from_counting.Common.{count, is_odd, Set, complement}
 use Rattle.graph_core.specs.Common.{Graph}
 
 -- |x| and |V - x| are odd

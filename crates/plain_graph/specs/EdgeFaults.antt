@@ -1,7 +1,7 @@
 -- The first pair of a list that cannot be an edge of a graph, and why.
 -- Stated by: plain_graph.
 use Rattle.std.specs.Prelude.{◌≢◌, ℕ, ◌<◌, ◌≤◌, List, length, slice_index_or}
-use Rattle.counting.specs.Common.{Within}
+use Rattle.allowed_edges.specs.from_counting.Common.{Within}
 
 -- the pair at place k, counted from 0
 abbrev pub pair_at : List (ℕ × ℕ) → ℕ → ℕ × ℕ

@@ -1,7 +1,7 @@
 -- Odd components, at their least vertices.
 -- Stated by: plain_graph.
 use Rattle.std.specs.Prelude.{◌&&◌}
-use Rattle.counting.specs.Common.{count, is_odd, Set}
+use Rattle.allowed_edges.specs.from_counting.Common.{count, is_odd, Set}
 use Rattle.graph_core.specs.Common.{is_least, Graph, joined}
 
 -- u is the least vertex of a component of g - s that has an odd number of vertices

@@ -1,7 +1,7 @@
 -- All sets of numbers 1 to n, and those of edges that are perfect matchings.
 -- Stated by: plain_graph.
 use Rattle.std.specs.Prelude.{ℕ, zero, suc, List, [], ◌∷◌, ◌++◌, filter, map}
-use Rattle.counting.specs.Common.{mem, Set}
+use Rattle.allowed_edges.specs.from_counting.Common.{mem, Set}
 use Rattle.graph_core.specs.Common.{Graph, size, is_perfect}
 
 -- all sets of numbers 1 to n as increasing lists: those without n, then those with n

@@ -1,15 +1,15 @@
 //! Cuts, and whether they are tight.
 ghost use Rattle.std.specs.Prelude.{◌≡◌, ◌≤◌, ◌==◌, IfOk};
 ghost use Rattle.std.specs.List.{list_all};
-ghost use Rattle.counting.specs.Common.{Within, count, is_odd, mem};
+ghost use Rattle.allowed_edges.specs.from_counting.Common.{Within, count, is_odd, mem};
 ghost use Rattle.graph_core.specs.Common.{edges_in_cut, in_cut, size, is_tight};
 ghost use Rattle.plain_graph.specs.Cuts.{has_odd_sides};
 ghost use Rattle.plain_graph.specs.Small.{IsSmall};
 
 use crate::perfect_matchings;
 use graph_core::MultiGraph;
+use graph_core::vset_core::VSet;
 use std::alloc::{AllocError as Memory, Global};
-use vset_core::VSet;
 
 /// Whether exactly one end of the edge is in the shore.
 fn is_in_cut(graph: &MultiGraph, shore: VSet, edge: u32) -> bool

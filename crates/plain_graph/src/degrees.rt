@@ -1,11 +1,11 @@
 //! Degrees, and whether a set of edges is a matching.
 ghost use Rattle.std.specs.Prelude.{◌≡◌, ◌≤◌, ◌+◌, ◌==◌, cond};
-ghost use Rattle.counting.specs.Common.{Within, bit, mem};
+ghost use Rattle.allowed_edges.specs.from_counting.Common.{Within, bit, mem};
 ghost use Rattle.graph_core.specs.Common.{degree, is_matching, is_perfect};
 ghost use Rattle.plain_graph.specs.Small.{IsSmall};
 
+use graph_core::vset_core::{MOST_VERTICES, VSet};
 use graph_core::{Ends, MultiGraph};
-use vset_core::{MOST_VERTICES, VSet};
 
 /// How many of the two ends are `v`.
 fn ends_at(ends: Ends, v: u32) -> u32

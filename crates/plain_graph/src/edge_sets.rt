@@ -1,12 +1,12 @@
 //! All sets of edges.
 ghost use Rattle.std.specs.Prelude.{◌≡◌, ◌≤◌, ◌+◌, ◌++◌, ◌∷◌, [], All, IfOk, OnOk, map};
-ghost use Rattle.counting.specs.Common.{IsRisingIn};
+ghost use Rattle.allowed_edges.specs.from_counting.Common.{IsRisingIn};
 ghost use Rattle.plain_graph.specs.Subsets.{subsets};
 
 use crate::MOST_PLAIN_EDGES;
 use graph_core::SetList;
+use graph_core::vset_core::VSet;
 use std::alloc::{AllocError as Memory, Global};
-use vset_core::VSet;
 
 /// Appends each set once more, with the next number added.
 fn add_with_next(sets: &mut SetList, before: u32) -> Result<(), Memory>

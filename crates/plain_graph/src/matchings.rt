@@ -1,16 +1,16 @@
 //! All perfect matchings, and the size of a maximum matching.
 ghost use Rattle.std.specs.Prelude.{◌≡◌, ◌≤◌, ℕ, true, All, Contains, IfOk, filter, length};
 ghost use Rattle.std.specs.List.{list_any};
-ghost use Rattle.counting.specs.Common.{Within, count, mem, rising_list, IsRisingIn, Set};
+ghost use Rattle.allowed_edges.specs.from_counting.Common.{Within, count, mem, rising_list, IsRisingIn, Set};
 ghost use Rattle.graph_core.specs.Common.{size, IsMatching, IsPerfect, has_matching_of, has_perfect, is_allowed, is_matching, is_perfect};
 ghost use Rattle.plain_graph.specs.Small.{IsSmall};
 ghost use Rattle.plain_graph.specs.Subsets.{perfect_matchings_of};
 
 use crate::edge_sets::edge_sets;
 use crate::{is_matching, is_perfect};
+use graph_core::vset_core::{MOST_VERTICES, VSet};
 use graph_core::{MultiGraph, SetList};
 use std::alloc::{AllocError as Memory, Global};
-use vset_core::{MOST_VERTICES, VSet};
 
 /// Those of the sets that are perfect matchings of G - `removed`.
 fn perfect_among(

@@ -1,11 +1,11 @@
 //! Components, by walks of bounded length.
 ghost use Rattle.std.specs.Prelude.{◌≡◌, ◌≤◌, ◌&&◌, ◌||◌, ℕ, true};
-ghost use Rattle.counting.specs.Common.{Within, is_odd, count, mem, some};
+ghost use Rattle.allowed_edges.specs.from_counting.Common.{Within, is_odd, count, mem, some};
 ghost use Rattle.graph_core.specs.Common.{is_least, odd_component_count, adjacent, joined};
 ghost use Rattle.plain_graph.specs.Parts.{begins_odd_part};
 
 use graph_core::MultiGraph;
-use vset_core::VSet;
+use graph_core::vset_core::VSet;
 
 /// Whether an edge of G - `removed` joins the two vertices.
 fn is_step(graph: &MultiGraph, removed: VSet, u: u32, v: u32) -> bool

@@ -1,12 +1,12 @@
 //! Graphs of the literature, by the ends of their edges: each is a constant, the edges in the
 //! order of their numbers.
 ghost use Rattle.std.specs.Prelude.{◌≡◌, ℕ, ◌<◌, ◌≤◌, length, IfOk, OnOk, IsErrOf};
-ghost use Rattle.counting.specs.Common.{Within};
+ghost use Rattle.allowed_edges.specs.from_counting.Common.{Within};
 ghost use Rattle.plain_graph.specs.EdgeFaults.{IsReachedPair, JoinsTwo, pair_at};
 
+use graph_core::vset_core::MOST_VERTICES;
 use graph_core::{AddFault, MOST_EDGES, MultiGraph};
 use std::alloc::Global;
-use vset_core::MOST_VERTICES;
 
 /// Two disjoint edges, on 4 vertices.
 pub const TWO_EDGES: [(u32, u32); 2] = [(1, 2), (3, 4)];

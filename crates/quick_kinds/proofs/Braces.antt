@@ -1,6 +1,6 @@
 -- Which bipartite covered graphs are braces? The theorem on braces: there is no nontrivial tight
 -- cut if and only if deleting any two vertices of each side leaves a graph with a perfect matching.
-use Rattle.counting.proofs.Common.{◌↔◌, arith, Set}
+use Rattle.graph_core.proofs.from_counting.Common.{◌↔◌, arith, Set}
 use Rattle.graph_core.proofs.Common.{IsSide, IsCovered, Graph, IsGraph, IsTight, IsNontrivial}
 use Rattle.quick_kinds.specs.Braces.{AreFoursMatched}
 use Rattle.quick_kinds.proofs.MatchedFours.{no_tight}

@@ -2,8 +2,8 @@
 -- perfect matching, there is no nontrivial tight cut. A tight set has one more vertex of one side,
 -- and no edge leaves it from the other side; so deleting two vertices of the larger side inside it,
 -- and two of the other side outside it, leaves no perfect matching.
-use Rattle.counting.proofs.Common.{◌≡◌, ℕ, suc, zero, ◌+◌, ◌*◌, ◌≤◌, ◌≢◌, Bool, true, false, ◌==◌, refl, ◌∙◌, arith, ◌&&◌, ◌||◌, not, ne_eqb, and_parts, not-false, not-true, count_congr, count_minus, two_of, count_split, total_congr, total_le, and_comm, bit, count, Within, Set, minus, meet, complement, singleton}
-use Rattle.barrier_kit.proofs.Common.{perfect_congr}
+use Rattle.graph_core.proofs.from_counting.Common.{◌≡◌, ℕ, suc, zero, ◌+◌, ◌*◌, ◌≤◌, ◌≢◌, Bool, true, false, ◌==◌, refl, ◌∙◌, arith, ◌&&◌, ◌||◌, not, ne_eqb, and_parts, not-false, not-true, count_congr, count_minus, two_of, count_split, total_congr, total_le, and_comm, bit, count, Within, Set, minus, meet, complement, singleton}
+use Rattle.matching_digraph.proofs.from_barrier_kit.Common.{perfect_congr}
 use Rattle.graph_core.proofs.Common.{IsSide, IsCovered, Graph, size, first_end, second_end, IsGraph, in_cut, degree, IsPerfect, IsTight, IsNontrivial, covered_perfect, degrees}
 use Rattle.matching_digraph.proofs.Balance.{balance, crossing, equal_sides, leaves_left, leaves_right, left_of, no_inner, none_right, other_side, right_of}
 use Rattle.quick_kinds.specs.Braces.{AreFoursMatched, four_set}

@@ -1,12 +1,12 @@
 -- The first cut that classes or cut pairs give. If no class gives a cut, the graph is bicritical,
 -- since a class of two vertices gives a cut; a bicritical graph in which no cut pair gives a cut
 -- has no cut pair.
-use Rattle.counting.proofs.Common.{◌≡◌, ℕ, ◌≤◌, true, ◌==◌, refl, sym, ap, ◌∙◌, ◌⊎◌, inl, inr, List, [], ◌∷◌, ◌++◌, length, Option, Some, None, arith, eqb-true, subst, ◌↔◌, All, slice_get, none-some, same_Some, All-head, Set}
+use Rattle.graph_core.proofs.from_counting.Common.{◌≡◌, ℕ, ◌≤◌, true, ◌==◌, refl, sym, ap, ◌∙◌, ◌⊎◌, inl, inr, List, [], ◌∷◌, ◌++◌, length, Option, Some, None, arith, eqb-true, subst, ◌↔◌, All, slice_get, none-some, same_Some, All-head, Set}
 use Rattle.graph_core.proofs.Common.{IsCovered, Graph, IsBipartite, IsMultigraph, IsBicritical, IsCutPair, equivalent_pair, IsNontrivial, IsTight}
-use Rattle.barrier_kit.proofs.Common.{barrier_cuts, four_vertices, no_sides, bicritical_no_cuts, some_cut}
+use Rattle.matching_digraph.proofs.from_barrier_kit.Common.{barrier_cuts, four_vertices, no_sides, bicritical_no_cuts, some_cut}
 use Rattle.brick_kit.proofs.Bricks.{brick_or_not}
-use Rattle.separation_kit.specs.Common.{separation_cuts}
-use Rattle.separation_kit.proofs.SeparationFacts.{cut_pair-none, no_pair_no_cuts, pair_some_cut, equivalent-none}
+use Rattle.brick_kit.specs.from_separation_kit.Common.{separation_cuts}
+use Rattle.brick_kit.proofs.from_separation_kit.SeparationFacts.{cut_pair-none, no_pair_no_cuts, pair_some_cut, equivalent-none}
 
 -- the first of a list
 pub first-left : (xs ys : List (List ℕ)) (r : List ℕ) → slice_get xs 0 ≡ Some r → Some r ≡ slice_get (xs ++ ys) 0

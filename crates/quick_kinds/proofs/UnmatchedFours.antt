@@ -1,8 +1,8 @@
 -- If deleting two vertices of each side of a bipartite covered graph leaves no perfect matching,
 -- there is a nontrivial tight cut. Hall's condition fails for some vertices, and these with their
 -- neighbours are the shore.
-use Rattle.counting.proofs.Common.{◌≡◌, ℕ, ◌+◌, ◌*◌, ◌≤◌, ◌<◌, ◌≢◌, Bool, true, false, ◌==◌, refl, sym, ap, ap₂, ◌∙◌, arith, ◌&&◌, ◌||◌, not, eq-eqb, ne_eqb, eqb-true, nat_lt, ltb-true, ltb-false, ◌⊎◌, inl, inr, cases_Bool, both_ways, and_parts, and_from, or_cases, Respects, choose_set, count_congr, count_minus, count_member, two_members, odd_three, count_singleton, some_true, true_some, some_congr, total_congr, total_add, total_le, total_at, not_not, same_tests, bit, count, Within, Set, none, union, minus, meet, complement, singleton, some}
-use Rattle.barrier_kit.proofs.Common.{glue_family, hall, hits, cut_split, cut_matching, loop_free, perfect_congr, neighbours, Picks}
+use Rattle.graph_core.proofs.from_counting.Common.{◌≡◌, ℕ, ◌+◌, ◌*◌, ◌≤◌, ◌<◌, ◌≢◌, Bool, true, false, ◌==◌, refl, sym, ap, ap₂, ◌∙◌, arith, ◌&&◌, ◌||◌, not, eq-eqb, ne_eqb, eqb-true, nat_lt, ltb-true, ltb-false, ◌⊎◌, inl, inr, cases_Bool, both_ways, and_parts, and_from, or_cases, Respects, choose_set, count_congr, count_minus, count_member, two_members, odd_three, count_singleton, some_true, true_some, some_congr, total_congr, total_add, total_le, total_at, not_not, same_tests, bit, count, Within, Set, none, union, minus, meet, complement, singleton, some}
+use Rattle.matching_digraph.proofs.from_barrier_kit.Common.{glue_family, hall, hits, cut_split, cut_matching, loop_free, perfect_congr, neighbours, Picks}
 use Rattle.graph_core.proofs.Common.{IsSide, IsCovered, Graph, size, first_end, second_end, IsGraph, degree, has_ends, edges_in_cut, IsPerfect, IsTight, IsNontrivial, tight_from_cut, covered_perfect, ends_of, degree_sum, ends_of_is, has_ends-cases, has_ends-own, has_ends-back}
 use Rattle.matching_digraph.proofs.Balance.{equal_sides, other_side, side_count}
 use Rattle.quick_kinds.specs.Braces.{four_set}

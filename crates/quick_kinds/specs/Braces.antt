@@ -2,7 +2,7 @@
 -- braces (Lovász and Plummer, "Matching Theory").
 -- Stated by: quick_kinds, theorems.
 use Rattle.std.specs.Prelude.{◌≡◌, ◌≢◌, ℕ, true, false}
-use Rattle.counting.specs.Common.{Within, Set, pair_set, union}
+use Rattle.graph_core.specs.from_counting.Common.{Within, Set, pair_set, union}
 use Rattle.graph_core.specs.Common.{Graph, HasPerfect}
 
 -- {a, c, b, d}, where a and c are on one side and b and d on the other

@@ -1,14 +1,14 @@
 //! The quick test for bricks.
 ghost use Rattle.std.specs.Prelude.{◌≡◌, ◌↔◌, ◌++◌, ℕ, None, IfOk, IfSome, slice_get};
 ghost use Rattle.graph_core.specs.Common.{IsCovered, IsBipartite, IsBicritical, IsCutPair, HasOnlyTrivialTightCuts, IsCanonicalCut};
-ghost use Rattle.barrier_kit.specs.Common.{barrier_cuts};
-ghost use Rattle.separation_kit.specs.Common.{separation_cuts};
+ghost use Rattle.matching_digraph.specs.from_barrier_kit.Common.{barrier_cuts};
+ghost use Rattle.brick_kit.specs.from_separation_kit.Common.{separation_cuts};
 
-use barrier_kit::barrier_cuts;
+use brick_kit::separation_kit::separation_cuts;
 use graph_core::MultiGraph;
-use separation_kit::separation_cuts;
+use graph_core::vset_core::VSet;
+use matching_digraph::barrier_kit::barrier_cuts;
 use std::alloc::{AllocError as Memory, Global};
-use vset_core::VSet;
 
 /// A nontrivial tight cut of a nonbipartite covered graph, by its canonical shore: the first of
 /// `barrier_cuts`, or if there is none, the first of `separation_cuts`. `None` comes if and only if

@@ -1,6 +1,6 @@
 //! The theorem on braces, the contract of a function that does nothing.
 ghost use Rattle.std.specs.Prelude.{◌↔◌};
-ghost use Rattle.counting.specs.Common.{Set};
+ghost use Rattle.graph_core.specs.from_counting.Common.{Set};
 ghost use Rattle.graph_core.specs.Common.{IsCovered, Graph, IsGraph, HasOnlyTrivialTightCuts, IsSide};
 ghost use Rattle.quick_kinds.specs.Braces.{AreFoursMatched};
 

@@ -16,6 +16,9 @@ mod brace;
 mod brick;
 mod laws;
 
+// Passed on to the crates above.
 pub use brace::{is_brace, quick_brace};
 pub use brick::quick_brick;
+pub use brick_kit::separation_kit;
 pub use laws::brace_law;
+pub use matching_digraph;

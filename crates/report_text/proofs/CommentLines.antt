@@ -1,17 +1,17 @@
 -- The lines after the text of a decomposition, and those that name vertices after it, are
 -- comments: each is written of words, the first of which is `c`.
-use Rattle.counting.proofs.Common.{◌≡◌, ℕ, zero, suc, ◌-◌, ◌<◌, ◌≤◌, ◌^◌, ◌==◌, not, Bool, true, List, [], ◌∷◌, ◌++◌, length, map, get_or, All, ap, refl, subst, append_assoc, arith, codes, eq-eqb, decimal, All-get_or, All-from_get_or, count_by-le-length, get_or-eq_default, AllByRecursion, cases_lt, or_left, or_right, All-nil, rising_list-rises, Within, last_of, mem}
+use Rattle.move_text.proofs.from_counting.Common.{◌≡◌, ℕ, zero, suc, ◌-◌, ◌<◌, ◌≤◌, ◌^◌, ◌==◌, not, Bool, true, List, [], ◌∷◌, ◌++◌, length, map, get_or, All, ap, refl, subst, append_assoc, arith, codes, eq-eqb, decimal, All-get_or, All-from_get_or, count_by-le-length, get_or-eq_default, AllByRecursion, cases_lt, or_left, or_right, All-nil, rising_list-rises, Within, last_of, mem}
 use Rattle.graph_core.proofs.Common.{Graph, size, first_end, second_end, has_ends, IsPartition, block, contracted, quotient, remembered}
 use Rattle.graph_text.proofs.NamedReadBack.{is_word-name}
 use Rattle.graph_text.specs.Common.{AreNames, is_name}
-use Rattle.line_text.specs.Common.{AreWords, is_word, written}
-use Rattle.line_text.proofs.Decimals.{is_word-decimal, words-decimal}
-use Rattle.line_text.proofs.WrittenLines.{spaced, unwords-spaced}
+use Rattle.graph_core.specs.from_line_text.Common.{AreWords, is_word, written}
+use Rattle.graph_core.proofs.from_line_text.Decimals.{is_word-decimal, words-decimal}
+use Rattle.graph_core.proofs.from_line_text.WrittenLines.{spaced, unwords-spaced}
 use Rattle.report_text.specs.Common.{HasFewLeaves, IsCommented, adjacent_line, adjacent_lines, block_lines, derivation_text, numbered_leaf_line, numbered_leaf_lines, leaf_text, name_at, tally_line, leaf_kind_word, list_line, name_line, name_lines, numbers_text, with_names_text}
-use Rattle.tree_core.proofs.Common.{leaf_at, is_brick, kind_at, tally_of}
-use Rattle.tree_core.specs.declared.tallies.LeafKind.{LeafKind}
-use Rattle.tree_core.specs.declared.tallies.LeafKind.TheVariants.{Brick, Brace}
-use Rattle.tree_core.specs.declared.tallies.Tally.{Tally}
+use Rattle.move_text.proofs.from_tree_core.Common.{leaf_at, is_brick, kind_at, tally_of}
+use Rattle.move_text.specs.from_tree_core.declared.tallies.LeafKind.{LeafKind}
+use Rattle.move_text.specs.from_tree_core.declared.tallies.LeafKind.TheVariants.{Brick, Brace}
+use Rattle.move_text.specs.from_tree_core.declared.tallies.Tally.{Tally}
 use Rattle.report_text.proofs.Comments.{commented-both, commented-line, commented-more, commented-none, commented-tail}
 
 -- the numbers of a line, each after a space

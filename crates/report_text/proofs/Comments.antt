@@ -1,9 +1,9 @@
 -- Comments after a text: they join, a line of words that begin with `c` is one, and a text that
 -- stands for a value stands for it with comments after it.
-use Rattle.counting.proofs.Common.{◌≡◌, ◌∙◌, ℕ, List, [], ◌∷◌, ◌++◌, true, ap, sym, subst, append_assoc, AllByRecursion, append-nil}
-use Rattle.line_text.specs.Common.{Rules, Stands, is_closed, IsComment, written}
-use Rattle.line_text.proofs.ReadBack.{AreSkipped-written, Stands-comments}
-use Rattle.line_text.proofs.WrittenLines.{written-append}
+use Rattle.move_text.proofs.from_counting.Common.{◌≡◌, ◌∙◌, ℕ, List, [], ◌∷◌, ◌++◌, true, ap, sym, subst, append_assoc, AllByRecursion, append-nil}
+use Rattle.graph_core.specs.from_line_text.Common.{Rules, Stands, is_closed, IsComment, written}
+use Rattle.graph_core.proofs.from_line_text.ReadBack.{AreSkipped-written, Stands-comments}
+use Rattle.graph_core.proofs.from_line_text.WrittenLines.{written-append}
 use Rattle.report_text.specs.Common.{IsCommented}
 
 -- comments, and further comments

@@ -1,12 +1,12 @@
 -- The lines of the leaves grow by those of one leaf: those before it give their own kinds. By
 -- induction over the leaves, and the items before stay when a kind is appended.
-use Rattle.counting.proofs.Common.{◌≡◌, ◌≤◌, ◌<◌, ℕ, zero, suc, ◌+◌, ◌-◌, ◌∙◌, List, [], ◌∷◌, ◌++◌, length, map, ap, refl, sym, get_or, slice_get, Some, arith, get_or-append, get_or-append_seam, length-map}
+use Rattle.move_text.proofs.from_counting.Common.{◌≡◌, ◌≤◌, ◌<◌, ℕ, zero, suc, ◌+◌, ◌-◌, ◌∙◌, List, [], ◌∷◌, ◌++◌, length, map, ap, refl, sym, get_or, slice_get, Some, arith, get_or-append, get_or-append_seam, length-map}
 use Rattle.contraction.specs.Partition.{PartitionValue}
 use Rattle.graph_core.proofs.Common.{Graph}
 use Rattle.report_text.specs.Common.{numbered_leaf_lines, leaf_text}
-use Rattle.tree_core.proofs.Common.{PlaceValue, blocks-at, place-at, place_of}
-use Rattle.tree_core.specs.declared.tallies.LeafKind.{LeafKind}
-use Rattle.tree_core.specs.declared.tallies.LeafKind.TheVariants.{Brick}
+use Rattle.move_text.proofs.from_tree_core.Common.{PlaceValue, blocks-at, place-at, place_of}
+use Rattle.move_text.specs.from_tree_core.declared.tallies.LeafKind.{LeafKind}
+use Rattle.move_text.specs.from_tree_core.declared.tallies.LeafKind.TheVariants.{Brick}
 use Rattle.report_text.proofs.WrittenLines.{leaf-written}
 
 -- the lines of the first leaves do not give the kinds of later ones

@@ -1,11 +1,11 @@
 -- Steps of the loops that write the lines of a leaf, and of the leaves: what is written and one
 -- more line are the lines with one more.
-use Rattle.counting.proofs.Common.{◌≡◌, ℕ, suc, ◌-◌, ◌∙◌, List, [], ◌++◌, length, ap, subst, append_assoc, slice_get, get_or, Some, arith, codes, get_or_from_slice_get, rising_list, Within}
+use Rattle.move_text.proofs.from_counting.Common.{◌≡◌, ℕ, suc, ◌-◌, ◌∙◌, List, [], ◌++◌, length, ap, subst, append_assoc, slice_get, get_or, Some, arith, codes, get_or_from_slice_get, rising_list, Within}
 use Rattle.graph_core.proofs.Common.{Graph, contracted, contracted-size, first_end, second_end, has_ends, size, quotient}
 use Rattle.report_text.specs.Common.{list_line, adjacent_line, adjacent_lines, block_lines, numbered_leaf_line, numbered_leaf_lines, leaf_text, name_at}
-use Rattle.tree_core.proofs.Common.{leaf_at, kind_at}
-use Rattle.tree_core.specs.declared.tallies.LeafKind.{LeafKind}
-use Rattle.tree_core.specs.declared.tallies.LeafKind.TheVariants.{Brick}
+use Rattle.move_text.proofs.from_tree_core.Common.{leaf_at, kind_at}
+use Rattle.move_text.specs.from_tree_core.declared.tallies.LeafKind.{LeafKind}
+use Rattle.move_text.specs.from_tree_core.declared.tallies.LeafKind.TheVariants.{Brick}
 
 -- one more line after those that are written
 pub one-more : (start lines line now next : List ℕ) → now ≡ start ++ lines → next ≡ now ++ line → next ≡ start ++ (lines ++ line)

@@ -2,9 +2,9 @@
 -- Stated by: report_text, bench_reports. Used by: bench_outcomes, bench_top, theorems.
 use Rattle.std.specs.Prelude.{◌≡◌, ◌<◌, ◌^◌, ℕ, List, ◌++◌, length, All}
 use Rattle.std.specs.List.{AllByRecursion}
-use Rattle.line_text.specs.Common.{IsComment, written}
+use Rattle.graph_core.specs.from_line_text.Common.{IsComment, written}
 use Rattle.graph_core.specs.Common.{Graph, size, IsPartition}
-use Rattle.tree_core.specs.declared.tallies.LeafKind.{LeafKind}
+use Rattle.move_text.specs.from_tree_core.declared.tallies.LeafKind.{LeafKind}
 
 -- the report is the text followed by lines that are comments
 pub record IsCommented (text report : List ℕ) : Type 0 where

@@ -3,8 +3,8 @@
 -- the first its partner and for each of its blocks the image.
 -- Stated by: report_text. Used by: bench_outcomes, theorems.
 use Rattle.std.specs.Prelude.{ℕ, List, [], ◌∷◌, ◌++◌, length, codes, decimal}
-use Rattle.line_text.specs.Common.{written}
-use Rattle.tree_core.specs.Common.{PlainMove}
+use Rattle.graph_core.specs.from_line_text.Common.{written}
+use Rattle.move_text.specs.from_tree_core.Common.{PlainMove}
 use Rattle.move_text.specs.Common.{move_words}
 use Rattle.report_text.specs.declared.comparisons.MapLine.{MapLine}
 

@@ -4,13 +4,13 @@
 -- are.
 -- Stated by: report_text. Used by: bench_outcomes, theorems.
 use Rattle.std.specs.Prelude.{ℕ, zero, suc, List, [], ◌++◌, length, slice_index_or, codes, decimal}
-use Rattle.counting.specs.Common.{last_of}
+use Rattle.move_text.specs.from_counting.Common.{last_of}
 use Rattle.graph_core.specs.Common.{Graph, size, first_end, second_end, block, quotient, remembered}
 use Rattle.report_text.specs.Reports.{list_line, numbers_text}
 use Rattle.report_text.specs.Words.{leaf_kind_word, tally_end}
-use Rattle.tree_core.specs.Common.{leaf_at, kind_at, tally_of}
-use Rattle.tree_core.specs.declared.tallies.LeafKind.{LeafKind}
-use Rattle.tree_core.specs.declared.tallies.Tally.{Tally}
+use Rattle.move_text.specs.from_tree_core.Common.{leaf_at, kind_at, tally_of}
+use Rattle.move_text.specs.from_tree_core.declared.tallies.LeafKind.{LeafKind}
+use Rattle.move_text.specs.from_tree_core.declared.tallies.Tally.{Tally}
 
 -- the line of a leaf with its number
 abbrev pub numbered_leaf_line : ℕ → LeafKind → List ℕ

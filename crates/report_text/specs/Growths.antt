@@ -4,7 +4,7 @@
 -- Stated by: report_text. Used by: bench_outcomes, bench_top, theorems.
 use Rattle.std.specs.Prelude.{ℕ, List, ◌++◌, codes, decimal}
 use Rattle.report_text.specs.Words.{tally_end}
-use Rattle.tree_core.specs.declared.tallies.Tally.{Tally}
+use Rattle.move_text.specs.from_tree_core.declared.tallies.Tally.{Tally}
 
 -- the line of the leaves of the decomposition by the order of this name
 abbrev pub order_line : (order : List ℕ) → Tally → List ℕ

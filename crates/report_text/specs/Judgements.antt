@@ -3,7 +3,7 @@
 use Rattle.std.specs.Prelude.{ℕ, List, [], ◌++◌, Option, Some, None, codes, decimal}
 use Rattle.report_text.specs.Reports.{numbers_text}
 use Rattle.report_text.specs.Words.{tally_end}
-use Rattle.tree_core.specs.declared.tallies.Tally.{Tally}
+use Rattle.move_text.specs.from_tree_core.declared.tallies.Tally.{Tally}
 use Rattle.report_text.specs.declared.judgements.Shown.{Shown}
 use Rattle.report_text.specs.declared.judgements.Shown.TheVariants as shown
 use Rattle.report_text.specs.declared.judgements.TreeLine.{TreeLine}

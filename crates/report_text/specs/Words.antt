@@ -6,9 +6,9 @@ use Rattle.graph_core.specs.declared.verdict.Kind.{Kind}
 use Rattle.graph_core.specs.declared.verdict.Kind.TheVariants.{Brace, Brick, Composite}
 use Rattle.graph_core.specs.declared.verdict.Reason.{Reason}
 use Rattle.graph_core.specs.declared.verdict.Reason.TheVariants.{Small, Parted, Unmatched, Unallowed}
-use Rattle.tree_core.specs.declared.tallies.LeafKind.{LeafKind}
-use Rattle.tree_core.specs.declared.tallies.LeafKind.TheVariants as leaf
-use Rattle.tree_core.specs.declared.tallies.Tally.{Tally}
+use Rattle.move_text.specs.from_tree_core.declared.tallies.LeafKind.{LeafKind}
+use Rattle.move_text.specs.from_tree_core.declared.tallies.LeafKind.TheVariants as leaf
+use Rattle.move_text.specs.from_tree_core.declared.tallies.Tally.{Tally}
 
 -- `yes` or `no`
 abbrev pub yes_or_no : Bool → List ℕ

@@ -1,15 +1,15 @@
 //! The report of a comparison of two derivations.
 ghost use Rattle.std.specs.Prelude.{◌≡◌, ◌++◌, OnOk, IfOk, string_bytes};
 ghost use Rattle.graph_core.specs.Common.{names_of};
-ghost use Rattle.tree_core.specs.Common.{move_of, moves_of};
+ghost use Rattle.move_text.specs.from_tree_core.Common.{move_of, moves_of};
 ghost use Rattle.report_text.specs.Common.{image_line, image_lines, map_text, map_texts, reported_move_line, move_lines, pairing_text, partner_line, same_line};
 
 use contraction::{Partition, name_of};
 use graph_core::Numbers;
-use listed::Listed;
+use graph_core::listed::Listed;
 use move_text::push_move;
+use move_text::tree_core::{Move, Moves};
 use std::alloc::{AllocError as Memory, Global};
-use tree_core::{Move, Moves};
 
 /// What is reported about one leaf of the first tree.
 #[derive(Drop)]

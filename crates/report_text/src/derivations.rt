@@ -1,18 +1,20 @@
 //! The report of a decomposition: the text of its tree, and its leaves as comments.
 ghost use Rattle.std.specs.Prelude.{◌≡◌, ◌<◌, ◌≤◌, ◌++◌, ◌^◌, ℕ, List, length, map, codes, OnOk, IfOk, All, string_bytes};
-ghost use Rattle.counting.specs.Common.{Within};
+ghost use Rattle.move_text.specs.from_counting.Common.{Within};
 ghost use Rattle.graph_core.specs.Common.{Graph, size, quotient};
-ghost use Rattle.tree_core.specs.Common.{AreLeafKinds, IsLeafKind, place_of, tally_of};
+ghost use Rattle.move_text.specs.from_tree_core.Common.{AreLeafKinds, IsLeafKind, place_of, tally_of};
 ghost use Rattle.report_text.specs.Common.{adjacent_line, adjacent_lines, block_lines, derivation_text, numbered_leaf_line, numbered_leaf_lines, leaf_text, name_at, tally_line};
-ghost use Rattle.tree_core.specs.declared.tallies.LeafKind.{LeafKind};
+ghost use Rattle.move_text.specs.from_tree_core.declared.tallies.LeafKind.{LeafKind};
 
 use crate::commenting::commented;
 use crate::numbers::{push_numbers, push_set_line};
 use crate::words::{leaf_kind_word, push_tally};
 use contraction::{Partition, PlacedEdges, name_of, quotient_graph};
 use graph_core::MultiGraph;
+use move_text::tree_core::{
+    KnownPlace, LeafKind, Partitions, Tally, kinds_at, leaf_kind_of, tallied,
+};
 use std::alloc::{AllocError as Memory, Global};
-use tree_core::{KnownPlace, LeafKind, Partitions, Tally, kinds_at, leaf_kind_of, tallied};
 
 fn push_leaf_line(text: &mut String, number: usize, kind: LeafKind) -> Result<(), Memory>
     ensures { OnOk result (string_bytes text.new ≡ string_bytes text.old ++ numbered_leaf_line number kind) }

@@ -4,8 +4,8 @@ ghost use Rattle.report_text.specs.Common.{grown_text, growth_lines, order_line,
 
 use crate::commenting::commented;
 use crate::words::push_tally;
+use move_text::tree_core::Tally;
 use std::alloc::{AllocError as Memory, Global};
-use tree_core::Tally;
 
 fn push_order(text: &mut String, order: &str, tally: Tally) -> Result<(), Memory>
     ensures { OnOk result

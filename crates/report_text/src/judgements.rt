@@ -5,9 +5,9 @@ ghost use Rattle.report_text.specs.Common.{accepted_line, judgement_text, number
 use crate::numbers::{push_numbers, push_set};
 use crate::words::push_tally;
 use graph_core::Numbers;
+use graph_core::vset_core::VSet;
+use move_text::tree_core::Tally;
 use std::alloc::{AllocError as Memory, Global};
-use tree_core::Tally;
-use vset_core::VSet;
 
 /// What a refusal shows as its reason.
 #[derive(Drop)]

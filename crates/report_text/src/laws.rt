@@ -1,9 +1,9 @@
 //! Laws of the reports. Each law is the contract of a function that does nothing.
 ghost use Rattle.std.specs.Prelude.{◌<◌, ◌^◌, ℕ, List, length, true};
-ghost use Rattle.line_text.specs.Common.{AreWords};
+ghost use Rattle.graph_core.specs.from_line_text.Common.{AreWords};
 ghost use Rattle.graph_core.specs.Common.{Graph};
 ghost use Rattle.report_text.specs.Common.{HasFewLeaves, IsCommented, derivation_text, with_names_text};
-ghost use Rattle.tree_core.specs.declared.tallies.LeafKind.{LeafKind};
+ghost use Rattle.move_text.specs.from_tree_core.declared.tallies.LeafKind.{LeafKind};
 
 /// The lines after the text in the report of a decomposition are comments, so the report stands for
 /// what the text stands for, provided that the numbers have at most nine digits.

@@ -3,8 +3,8 @@ ghost use Rattle.std.specs.Prelude.{◌≡◌, ◌++◌, OnOk, string_bytes};
 ghost use Rattle.report_text.specs.Common.{list_line, numbers_text};
 
 use graph_core::Numbers;
+use graph_core::vset_core::VSet;
 use std::alloc::AllocError as Memory;
-use vset_core::VSet;
 
 /// Appends each number with one space before it.
 pub fn push_numbers(text: &mut String, numbers: &[u32]) -> Result<(), Memory>

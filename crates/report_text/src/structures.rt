@@ -4,9 +4,9 @@ ghost use Rattle.report_text.specs.Common.{numbers_text, class_lines, classes_li
 
 use crate::numbers::{push_set, push_set_line};
 use crate::words::kind_word;
+use graph_core::vset_core::VSet;
 use graph_core::{Ends, Kind, SetList};
 use std::alloc::AllocError as Memory;
-use vset_core::VSet;
 
 /// What `analyse` reports about a matching covered graph.
 #[derive(Drop)]

@@ -3,8 +3,8 @@ ghost use Rattle.std.specs.Prelude.{◌≡◌, ◌++◌, OnOk, string_bytes};
 ghost use Rattle.report_text.specs.Common.{kind_word, leaf_kind_word, reason_word, tally_end, yes_or_no};
 
 use graph_core::{Kind, Reason};
+use move_text::tree_core::{LeafKind, Tally};
 use std::alloc::AllocError as Memory;
-use tree_core::{LeafKind, Tally};
 
 /// `yes` or `no`.
 pub fn yes_or_no(holds: bool) -> &'static str

@@ -1,7 +1,7 @@
 -- The components at a cut pair of a bicritical graph give nontrivial tight cuts, and a brick has at
 -- least four vertices, is bicritical and has no cut pair. If one of these failed, there would be a
 -- nontrivial tight cut.
-use Rattle.counting.proofs.Common.{◌≡◌, ℕ, ◌≤◌, false, arith, count_member, Within, Set, pair_set, union, singleton}
+use Rattle.graph_core.proofs.from_counting.Common.{◌≡◌, ℕ, ◌≤◌, false, arith, count_member, Within, Set, pair_set, union, singleton}
 use Rattle.barrier_kit.proofs.Common.{leads_out, four_vertices, bicritical}
 use Rattle.graph_core.proofs.Common.{IsSide, is_least, component_count, IsCovered, Graph, IsGraph, IsBicritical, IsCutPair, IsTight, IsNontrivial, joined}
 use Rattle.separation_kit.proofs.Separations.{separation_tight, separation_nontrivial}

@@ -1,7 +1,7 @@
 -- The first separation cut is the first cut at the first cut pair. The shores at that pair come
 -- first, and one of them gives a cut.
 use Rattle.std.proofs.Common.{◌≡◌, ◌≢◌, ℕ, ◌<◌, ◌≤◌, Bool, true, false, ◌&&◌, cond, refl, sym, ap, ap₂, ◌∙◌, arith, List, [], ◌∷◌, ◌++◌, Some, None, filter, flat_map, fold, slice_get, leb-true, le-leb, All, find}
-use Rattle.counting.proofs.Common.{All-tail, Within, rising_pairs, pair_set}
+use Rattle.graph_core.proofs.from_counting.Common.{All-tail, Within, rising_pairs, pair_set}
 use Rattle.graph_core.proofs.Common.{component_count, Graph, IsGraph, IsBicritical, IsCutPair, cut_pair, with_cut}
 use Rattle.barrier_kit.proofs.Common.{pairs_rise, first-of_part}
 use Rattle.separation_kit.specs.Common.{is_cut_pair, separation_cuts, separation_shores, shores_at_pair}

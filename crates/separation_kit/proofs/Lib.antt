@@ -8,3 +8,5 @@ pub mod Flooding
 pub mod Leaves
 pub mod FirstSeparations
 pub mod Domination
+-- Passed on to the crates above: from_NAME is all that the crate NAME has in its folder of this name.
+pub use Rattle.barrier_kit.proofs as from_barrier_kit

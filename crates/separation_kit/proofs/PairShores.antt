@@ -2,7 +2,7 @@
 -- pair the components in order. A step of the loop is a step of the fold; a pair that is not a cut
 -- pair adds nothing.
 use Rattle.std.proofs.Common.{◌≡◌, ℕ, ◌+◌, ◌<◌, ◌≤◌, true, false, ◌==◌, ◌||◌, cond, not, ap, arith, List, [], ◌∷◌, ◌++◌, map, flat_map, filter, fold, length, take, get_or, append-nil, All, is_none, eqb-true}
-use Rattle.counting.proofs.Common.{flat_map-append, filter-append, fold-append, le-leb, or_cases, get_or-map, length-map, map-append, take_all, take_more, All-map, mem-within, list-from_test, rising_list-rises, set-narrower, Within, IsRisingIn, mem, rising_list, rising_pairs, Set, pair_set, singleton, union}
+use Rattle.graph_core.proofs.from_counting.Common.{flat_map-append, filter-append, fold-append, le-leb, or_cases, get_or-map, length-map, map-append, take_all, take_more, All-map, mem-within, list-from_test, rising_list-rises, set-narrower, Within, IsRisingIn, mem, rising_list, rising_pairs, Set, pair_set, singleton, union}
 use Rattle.graph_core.proofs.Common.{has_perfect_found, components, is_least, Graph, has_perfect, IsBicritical, is_bicritical, equivalent_pair, joined, with_cut, pair_of}
 use Rattle.barrier_kit.proofs.Common.{all_rising, pairs_rise, unfound_all}
 use Rattle.separation_kit.specs.Common.{is_cut_pair, separation_cuts, separation_shores, shores_at_pair}

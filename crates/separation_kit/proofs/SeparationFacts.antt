@@ -1,7 +1,7 @@
 -- The cuts at cut pairs: each is tight, there is one if a bicritical graph has a cut pair, and none
 -- if it has no cut pair. What is true of each component at each cut pair is true of each item of
 -- the list.
-use Rattle.counting.proofs.Common.{◌≡◌, ◌≢◌, ◌↔◌, ℕ, ◌≤◌, ◌<◌, Bool, true, false, ◌==◌, ◌&&◌, ◌||◌, not, refl, sym, ap, arith, inl, inr, List, [], map, filter, flat_map, nat_le, nat_lt, lt-ltb, leb-true, subst, ap₂, get_or, None, All, find, if◌then◌else◌, both_ways, cases_lt, false_from_ne_true, le-leb, not-false, All-map, All-nil, count_member, mem-rising_list, Within, count, is_odd, mem, pair_with, rising_list, rising_pairs, Set, everything, pair_set, singleton, union}
+use Rattle.graph_core.proofs.from_counting.Common.{◌≡◌, ◌≢◌, ◌↔◌, ℕ, ◌≤◌, ◌<◌, Bool, true, false, ◌==◌, ◌&&◌, ◌||◌, not, refl, sym, ap, arith, inl, inr, List, [], map, filter, flat_map, nat_le, nat_lt, lt-ltb, leb-true, subst, ap₂, get_or, None, All, find, if◌then◌else◌, both_ways, cases_lt, false_from_ne_true, le-leb, not-false, All-map, All-nil, count_member, mem-rising_list, Within, count, is_odd, mem, pair_with, rising_list, rising_pairs, Set, everything, pair_set, singleton, union}
 use Rattle.graph_core.proofs.Common.{has_perfect_found, has_perfect_says, nontrivial-same, tight-same, component_count, components, is_least, IsCovered, Graph, IsGraph, HasPerfect, has_perfect, IsBicritical, IsCutPair, cut_pair, is_bicritical, equivalent_pair, IsTight, canonical_shore, is_nontrivial, joined, IsCanonicalCut, cuts_of}
 use Rattle.barrier_kit.proofs.Common.{all_flat, all_passing, all_rising, all_unfound, filter_all, flat_all, map_all, pairs_rise, rising_all, unfound_all, leads_out, cuts-canonical, cuts-none, cuts-some, has_perfect-true, listed_tight, listed_wide}
 use Rattle.separation_kit.specs.Common.{is_cut_pair, separation_cuts, separation_shores, shores_at_pair}

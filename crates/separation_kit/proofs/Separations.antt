@@ -1,10 +1,10 @@
 -- Let G - u - v have a perfect matching. Each component of it is even, and the cut of each together
 -- with u is tight. A perfect matching has an edge or two at u and v, and an odd shore has an odd
 -- number in its cut.
-use Rattle.counting.proofs.Common.{◌≡◌, ℕ, suc, ◌+◌, ◌*◌, ◌≤◌, ◌≢◌, Bool, true, false, ◌==◌, refl, sym, ap, ◌∙◌, arith, ◌&&◌, ◌||◌, not, eq-eqb, ne_eqb, eqb-true, inl, inr, false_from_ne_true, both_ways, or_cases, count_congr, count_complement, count_plus, count_minus, count_member, member_count, odd-double, complement_odd, count_singleton, count_mono, total_congr, total_add, total_le, total_none, bit, count, Within, is_odd, Set, pair_set, none, union, minus, complement, singleton}
+use Rattle.graph_core.proofs.from_counting.Common.{◌≡◌, ℕ, suc, ◌+◌, ◌*◌, ◌≤◌, ◌≢◌, Bool, true, false, ◌==◌, refl, sym, ap, ◌∙◌, arith, ◌&&◌, ◌||◌, not, eq-eqb, ne_eqb, eqb-true, inl, inr, false_from_ne_true, both_ways, or_cases, count_congr, count_complement, count_plus, count_minus, count_member, member_count, odd-double, complement_odd, count_singleton, count_mono, total_congr, total_add, total_le, total_none, bit, count, Within, is_odd, Set, pair_set, none, union, minus, complement, singleton}
 use Rattle.barrier_kit.proofs.Common.{leads_out, leader_of, leader_same, part_step, part_out, part_same, inner, ends_out}
 use Rattle.graph_core.proofs.Common.{joined_outside, walk_joined, ends_of, degree_sum, missed_edges, degrees, parity, perfect_matching, perfect_misses, nontrivial-same, tight-same, joined_self, is_least, component_count, Graph, size, first_end, second_end, IsGraph, in_cut, degree, edges_in_cut, IsPerfect, IsCutPair, IsTight, IsNontrivial, joined}
-use Rattle.match_search.proofs.NearPerfectSets.{ends_far, ends_near}
+use Rattle.barrier_kit.proofs.from_match_search.NearPerfectSets.{ends_far, ends_near}
 
 module _ (g : Graph) (is : IsGraph g) (u v : ℕ) (wu : Within g.order u) (wv : Within g.order v) (d : u ≢ v) (n : Set) (pn : IsPerfect g (pair_set u v) n) where
   abbrev pair : Set

@@ -3,3 +3,5 @@ pub mod Pairs
 pub mod Dominators
 pub mod Common
 pub mod Cores
+-- Passed on to the crates above: from_NAME is all that the crate NAME has in its folder of this name.
+pub use Rattle.barrier_kit.specs.from_match_core as from_match_core

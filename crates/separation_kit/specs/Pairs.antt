@@ -1,7 +1,7 @@
 -- How contracts see the code's pairs of vertices.
 -- Stated by: separation_kit.
 use Rattle.std.specs.Prelude.{◌≡◌, ℕ, ◌<◌, Bool, true, false, not}
-use Rattle.counting.specs.Common.{Within, pair_set}
+use Rattle.graph_core.specs.from_counting.Common.{Within, pair_set}
 use Rattle.graph_core.specs.Common.{Graph, has_perfect}
 use Rattle.graph_core.specs.declared.ends.Ends.{Ends}
 

@@ -2,7 +2,7 @@
 -- 1982).
 -- Stated by: separation_kit, quick_kinds, tight_cuts.
 use Rattle.std.specs.Prelude.{ℕ, Bool, List, [], ◌&&◌, flat_map, map, filter, nat_le, if◌then◌else◌}
-use Rattle.counting.specs.Common.{union, singleton, pair_set, mem, rising_list, rising_pairs}
+use Rattle.graph_core.specs.from_counting.Common.{union, singleton, pair_set, mem, rising_list, rising_pairs}
 use Rattle.graph_core.specs.Common.{Graph, component_count, components, is_bicritical, cuts_of}
 
 -- deleting the two vertices leaves at least two components

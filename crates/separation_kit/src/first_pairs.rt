@@ -5,8 +5,8 @@ ghost use Rattle.std.specs.Option.{option_map};
 ghost use Rattle.graph_core.specs.Common.{IsCovered, IsBipartite, IsBicritical, classes, cut_pair, equivalent_pair, IsWithinLimits, pair_of};
 
 use crate::critical::{cut_pair, equivalent_pair};
+use barrier_kit::graph_facts::Covered;
 use graph_core::{Ends, SetList};
-use graph_facts::Covered;
 use std::marker::Model;
 
 /// A covered graph with the first pair of vertices that shows that it is not bicritical, with its

@@ -1,6 +1,6 @@
 //! The laws of separations. Each law is the contract of a function that does nothing.
 ghost use Rattle.std.specs.Prelude.{◌≡◌, ◌≢◌, ◌≤◌, ◌↔◌, ℕ, true, false, None, All, []};
-ghost use Rattle.counting.specs.Common.{Within, count, is_odd, mem, pair_set, singleton, union};
+ghost use Rattle.graph_core.specs.from_counting.Common.{Within, count, is_odd, mem, pair_set, singleton, union};
 ghost use Rattle.graph_core.specs.Common.{IsCovered, Graph, IsBipartite, IsGraph, IsMultigraph, HasPerfect, IsBicritical, IsCutPair, cut_pair, equivalent_pair, HasOnlyTrivialTightCuts, IsNontrivial, IsTight, joined, IsCanonicalCut};
 ghost use Rattle.separation_kit.specs.Common.{separation_cuts, separation_shores};
 

@@ -22,6 +22,8 @@ mod laws;
 mod pairs;
 mod shores;
 
+// Passed on to the crates above.
+pub use barrier_kit::graph_facts;
 pub use critical::{cut_pair, equivalent_pair, not_bicritical, parts_without};
 pub use first_pairs::FirstPairs;
 pub use laws::{brick_law, first_pairs_law, separation_cuts_law, separation_law};

@@ -1,11 +1,11 @@
 //! Pairs of vertices in lexicographic order.
 ghost use Rattle.std.specs.Prelude.{◌≡◌, ◌≤◌, ◌++◌, map, nat_lt, IfOk, OnOk};
-ghost use Rattle.counting.specs.Common.{Within, pair_with, rising_list, rising_pairs};
+ghost use Rattle.graph_core.specs.from_counting.Common.{Within, pair_with, rising_list, rising_pairs};
 ghost use Rattle.graph_core.specs.Common.{pair_of};
 
 use graph_core::Ends;
+use graph_core::vset_core::MOST_VERTICES;
 use std::alloc::{AllocError as Memory, Global};
-use vset_core::MOST_VERTICES;
 
 // Appends the pairs of a with the larger numbers up to n.
 fn push_pairs(pairs: &mut Vec<Ends>, n: u32, a: u32) -> Result<(), Memory>

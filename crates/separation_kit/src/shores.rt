@@ -1,7 +1,7 @@
 //! The cuts that the cut pairs of a bicritical graph give.
 ghost use Rattle.std.specs.Prelude.{◌≡◌, ◌≤◌, fold, map, slice_get, All, IfOk, OnOk};
 ghost use Rattle.std.specs.Option.{option_map};
-ghost use Rattle.counting.specs.Common.{Within, singleton, union, mem, rising_list, IsRisingIn};
+ghost use Rattle.graph_core.specs.from_counting.Common.{Within, singleton, union, mem, rising_list, IsRisingIn};
 ghost use Rattle.graph_core.specs.Common.{IsCovered, IsBicritical, cut_pair, with_cut, pair_of};
 ghost use Rattle.separation_kit.specs.Common.{separation_cuts, shores_at_pair};
 
@@ -9,9 +9,9 @@ use crate::critical::{is_cut_pair, parts_without};
 use crate::dominators::dominator_candidates;
 use crate::first_pairs::FirstPairs;
 use crate::pairs::all_pairs;
+use graph_core::vset_core::{MOST_VERTICES, VSet};
 use graph_core::{Ends, MultiGraph, SetList, add_cut};
 use std::alloc::{AllocError as Memory, Global};
-use vset_core::{MOST_VERTICES, VSet};
 
 // The component with one vertex of the pair.
 fn with_vertex(n: u32, part: VSet, a: u32) -> VSet

@@ -1,6 +1,6 @@
 -- A perfect matching without the ends of an edge, with this edge, is one of the graph; and how a
 -- matching meets a set of vertices. The edge is a perfect matching of its two ends.
-use Rattle.counting.proofs.Common.{◌≡◌, ◌≢◌, ℕ, ◌*◌, Bool, true, false, ◌==◌, ◌||◌, not, refl, sym, ap, ◌∙◌, arith, eq-eqb, eqb-true, inl, inr, or_cases, or_right, not_not_back, or_false_back, total_congr, Within, bit, count, total, Set, complement, minus, none, pair_set, singleton, union}
+use Rattle.tree_check.proofs.from_counting.Common.{◌≡◌, ◌≢◌, ℕ, ◌*◌, Bool, true, false, ◌==◌, ◌||◌, not, refl, sym, ap, ◌∙◌, arith, eq-eqb, eqb-true, inl, inr, or_cases, or_right, not_not_back, or_false_back, total_congr, Within, bit, count, total, Set, complement, minus, none, pair_set, singleton, union}
 use Rattle.barrier_kit.proofs.Common.{glue, perfect_congr}
 use Rattle.graph_core.proofs.Common.{has_ends-own, Graph, IsGraph, degree, first_end, second_end, size, Allowed, HasPerfect, IsPerfect}
 use Rattle.quick_kinds.proofs.UnmatchedFours.{one_edge}

@@ -1,7 +1,7 @@
 -- For every multigraph there are right lines of `analyse`: each of them is a test, and so each
 -- list is a rising list. The kind of a covered graph is composite by its first candidate, and
 -- if there is none it is brace or brick by its sides.
-use Rattle.counting.proofs.Common.{◌≡◌, ◌⊎◌, ◌↔◌, ℕ, Bool, true, false, List, [], ◌∷◌, Option, Some, None, option_map, refl, sym, ◌∙◌, arith, inl, inr, All, IsTrue, true≢false, mem-within, mem-rising_list, rising_list-rises, Within, count, Lists, rising_list, Set, none}
+use Rattle.tree_check.proofs.from_counting.Common.{◌≡◌, ◌⊎◌, ◌↔◌, ℕ, Bool, true, false, List, [], ◌∷◌, Option, Some, None, option_map, refl, sym, ◌∙◌, arith, inl, inr, All, IsTrue, true≢false, mem-within, mem-rising_list, rising_list-rises, Within, count, Lists, rising_list, Set, none}
 use Rattle.theorems.proofs.Quotients.{bipartite-or}
 use Rattle.graph_core.proofs.Common.{is_allowed_found, is_allowed_says, maximum_exists, component_count, IsCovered, InA, InC, InD, Graph, IsBipartite, IsMultigraph, size, Allowed, is_allowed, missed_count, classes, cut_pair, equivalent_pair, HasOnlyTrivialTightCuts, pair_of, IsVerdict}
 use Rattle.graph_core.specs.declared.ends.Ends.{Ends}
@@ -9,14 +9,14 @@ use Rattle.graph_core.specs.declared.verdict.Kind.{Kind}
 use Rattle.graph_core.specs.declared.verdict.Kind.TheVariants.{Brace, Brick, Composite}
 use Rattle.graph_core.specs.declared.verdict.Verdict.{Verdict}
 use Rattle.graph_core.specs.declared.verdict.Verdict.TheVariants.{Covered, NotCovered}
-use Rattle.leaf_kinds.specs.LeafKinds.{IsKind, cut_of}
-use Rattle.tight_cuts.proofs.Completeness.{candidates_found, candidates_none}
-use Rattle.tight_cuts.specs.Common.{Candidate, IsTightCandidate, candidates, first_shore}
+use Rattle.bench_top.specs.from_leaf_kinds.LeafKinds.{IsKind, cut_of}
+use Rattle.tree_check.proofs.from_tight_cuts.Completeness.{candidates_found, candidates_none}
+use Rattle.tree_check.specs.from_tight_cuts.Common.{Candidate, IsTightCandidate, candidates, first_shore}
 use Rattle.report_text.specs.declared.analyses.AnalysisLines.{AnalysisLines}
 use Rattle.report_text.specs.declared.structures.Structure.{Structure}
-use Rattle.bench_outcomes.specs.Common.{IsAnalysis, IsStructure, TellsStructure, Analysed, Analysed6, with_given_names}
-use Rattle.bench_outcomes.specs.declared.status.Status.{Status}
-use Rattle.bench_outcomes.specs.declared.status.Status.TheVariants.{Done}
+use Rattle.bench_top.specs.from_bench_outcomes.Common.{IsAnalysis, IsStructure, TellsStructure, Analysed, Analysed6, with_given_names}
+use Rattle.bench_top.specs.from_bench_outcomes.declared.status.Status.{Status}
+use Rattle.bench_top.specs.from_bench_outcomes.declared.status.Status.TheVariants.{Done}
 use Rattle.graph_text.specs.Common.{NamedGraph}
 use Rattle.graph6_text.specs.Common.{graph6_of}
 use Rattle.report_text.specs.Common.{analysis_text, graph6_line}

@@ -1,11 +1,11 @@
 -- Each tight cut of a bipartite covered graph is the cut of a component that a barrier leaves.
 -- If a tight shore X has one vertex more on the side A, X ∩ A is the barrier: without it each
 -- vertex of X - A is alone, and the other shore is one component.
-use Rattle.counting.proofs.Common.{◌≡◌, ℕ, suc, zero, ◌+◌, ◌≤◌, Bool, true, false, ◌==◌, ◌&&◌, ◌||◌, not, refl, sym, ap, ◌∙◌, arith, subst, eq-eqb, eqb-true, inl, inr, and_from, or_cases, not-true, true≢false, false_from_ne_true, same_tests, count_congr, count_member, count_plus, odd_pos, count_mono, count_singleton, Within, count, is_odd, Set, complement, meet, minus, singleton, union}
+use Rattle.tree_check.proofs.from_counting.Common.{◌≡◌, ℕ, suc, zero, ◌+◌, ◌≤◌, Bool, true, false, ◌==◌, ◌&&◌, ◌||◌, not, refl, sym, ap, ◌∙◌, arith, subst, eq-eqb, eqb-true, inl, inr, and_from, or_cases, not-true, true≢false, false_from_ne_true, same_tests, count_congr, count_member, count_plus, odd_pos, count_mono, count_singleton, Within, count, is_odd, Set, complement, meet, minus, singleton, union}
 use Rattle.barrier_kit.proofs.Common.{leader_of, part_same, few_odd_components, tight-turned, crosses_apart}
 use Rattle.graph_core.proofs.Common.{IsSide, is_least, odd_component_count, IsCovered, Graph, IsGraph, first_end, in_cut, second_end, size, IsTight, Joined, joined, joined_walk, walk_joined, covered_perfect, joined_more, joined_back, joined_self}
-use Rattle.brick_kit.proofs.PairSeparations.{stays_joined}
-use Rattle.matching_digraph.proofs.Balance.{balance, leaves_left, leaves_right, none_right, other_side}
+use Rattle.quick_kinds.proofs.from_brick_kit.PairSeparations.{stays_joined}
+use Rattle.quick_kinds.proofs.from_matching_digraph.Balance.{balance, leaves_left, leaves_right, none_right, other_side}
 use Rattle.theorems.proofs.ConnectedShores.{tight_joined}
 use Rattle.theorems.specs.Bricks.{IsBarrierCutOf}
 

@@ -1,11 +1,11 @@
 -- When a bipartite graph is matching covered (Hetyei). With a neighbour more than vertices for
 -- each proper part of a side, any two vertices on opposite sides leave a perfect matching, by
 -- Hall's theorem; so each edge is in one. Four vertices make the graph connected.
-use Rattle.counting.proofs.Common.{◌≡◌, ◌≢◌, ℕ, ◌+◌, ◌≤◌, Bool, true, false, ◌==◌, ◌&&◌, ◌||◌, not, refl, sym, ap, ◌∙◌, arith, eqb-true, subst, ◌↔◌, inl, inr, and_from, and_parts, both_ways, but_from, cases_Bool, cases_lt, false_from_ne_true, not-true, or_comm, true≢false, count_complement, count_congr, count_member, count_minus, count_mono, count_singleton, count_split, count_zero, Within, count, Set, complement, meet, minus, none, pair_set, singleton, union}
+use Rattle.tree_check.proofs.from_counting.Common.{◌≡◌, ◌≢◌, ℕ, ◌+◌, ◌≤◌, Bool, true, false, ◌==◌, ◌&&◌, ◌||◌, not, refl, sym, ap, ◌∙◌, arith, eqb-true, subst, ◌↔◌, inl, inr, and_from, and_parts, both_ways, but_from, cases_Bool, cases_lt, false_from_ne_true, not-true, or_comm, true≢false, count_complement, count_congr, count_member, count_minus, count_mono, count_singleton, count_split, count_zero, Within, count, Set, complement, meet, minus, none, pair_set, singleton, union}
 use Rattle.barrier_kit.proofs.Common.{neighbours, perfect_congr}
 use Rattle.graph_core.proofs.Common.{degrees, joined_or_not, parted, Allowed, Graph, IsConnected, IsCovered, IsMultigraph, IsPerfect, IsSide, edges_in_cut, first_end, has_ends, has_ends-back, has_ends-own, in_cut, second_end, size}
-use Rattle.matching_digraph.proofs.Balance.{equal_sides, no_inner, other_side}
-use Rattle.matching_digraph.proofs.TightShores.{ends_within}
+use Rattle.quick_kinds.proofs.from_matching_digraph.Balance.{equal_sides, no_inner, other_side}
+use Rattle.quick_kinds.proofs.from_matching_digraph.TightShores.{ends_within}
 use Rattle.two_ears.proofs.OppositeSides.{opposite}
 use Rattle.theorems.proofs.AddedEdges.{allowed_from, degrees_outside, ends_set}
 use Rattle.theorems.proofs.BrickFacts.{turned_cut}

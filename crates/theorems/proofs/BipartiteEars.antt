@@ -1,12 +1,12 @@
 -- A bipartite graph of which each vertex is at an edge is matching covered if and only if single
 -- ears lead from an edge to all edges. An ear is odd, so its ends are on opposite sides and serve.
-use Rattle.counting.proofs.Common.{◌≡◌, ℕ, true, not, ◌==◌, ap, ◌∙◌, List, [], ◌∷◌, ◌↔◌, AllByRecursion, Within, Set, everything, singleton}
-use Rattle.ear_core.proofs.BipartiteStages.{last_vertex-side}
-use Rattle.ear_core.proofs.FirstStage.{first-stage}
-use Rattle.ear_core.proofs.Rests.{covered-meets}
-use Rattle.ear_core.proofs.Stepping.{covered-edge}
-use Rattle.ear_core.proofs.WholeStages.{stage-covered}
-use Rattle.ear_core.specs.Common.{AreSteps, IsSingle, IsStage, PlainEar, PlainStep, is_met, one, two, with_edges}
+use Rattle.tree_check.proofs.from_counting.Common.{◌≡◌, ℕ, true, not, ◌==◌, ap, ◌∙◌, List, [], ◌∷◌, ◌↔◌, AllByRecursion, Within, Set, everything, singleton}
+use Rattle.ear_text.proofs.from_ear_core.BipartiteStages.{last_vertex-side}
+use Rattle.ear_text.proofs.from_ear_core.FirstStage.{first-stage}
+use Rattle.ear_text.proofs.from_ear_core.Rests.{covered-meets}
+use Rattle.ear_text.proofs.from_ear_core.Stepping.{covered-edge}
+use Rattle.ear_text.proofs.from_ear_core.WholeStages.{stage-covered}
+use Rattle.ear_text.specs.from_ear_core.Common.{AreSteps, IsSingle, IsStage, PlainEar, PlainStep, is_met, one, two, with_edges}
 use Rattle.graph_core.proofs.Common.{degree_congr, Graph, IsCovered, IsMultigraph, IsSide, in_cut, size}
 use Rattle.theorems.proofs.EarSteps.{ear-list-exists}
 use Rattle.theorems.proofs.HetyeiEars.{opposite-ends}

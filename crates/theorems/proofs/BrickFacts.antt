@@ -1,11 +1,11 @@
 -- A graph is a brick if and only if it has four vertices, is bicritical and has no cut pair. Each
 -- edge of a bicritical graph is in a perfect matching; two vertices of one side of a bipartite
 -- graph leave the sides unequal.
-use Rattle.counting.proofs.Common.{◌≡◌, ℕ, ◌≤◌, Bool, true, ◌==◌, ◌&&◌, not, sym, ap, ◌∙◌, arith, eqb-true, ◌↔◌, inl, inr, or_cases, apart_denied, count_complement, count_congr, two_of, total_congr, total_none, bit, count, Set, complement, minus, none, pair_set}
+use Rattle.tree_check.proofs.from_counting.Common.{◌≡◌, ℕ, ◌≤◌, Bool, true, ◌==◌, ◌&&◌, not, sym, ap, ◌∙◌, arith, eqb-true, ◌↔◌, inl, inr, or_cases, apart_denied, count_complement, count_congr, two_of, total_congr, total_none, bit, count, Set, complement, minus, none, pair_set}
 use Rattle.barrier_kit.proofs.Common.{two_less, no_sides}
 use Rattle.graph_core.proofs.Common.{IsSide, IsCovered, Graph, IsBipartite, IsMultigraph, edges_in_cut, first_end, second_end, size, IsBicritical, IsCutPair, HasOnlyTrivialTightCuts, degrees}
-use Rattle.brick_kit.proofs.Bricks.{no_shore}
-use Rattle.matching_digraph.proofs.Balance.{equal_sides, no_inner, other_side}
+use Rattle.quick_kinds.proofs.from_brick_kit.Bricks.{no_shore}
+use Rattle.quick_kinds.proofs.from_matching_digraph.Balance.{equal_sides, no_inner, other_side}
 use Rattle.separation_kit.proofs.CutPairs.{brick_facts}
 use Rattle.theorems.proofs.AddedEdges.{allowed_from, degrees_outside}
 use Rattle.theorems.proofs.ThreeConnected.{pair_or_three}

@@ -3,32 +3,32 @@
 -- each order a derivation; names that a file gives are words, and so the texts are read again.
 use Rattle.std.proofs.Common.{◌≡◌, ℕ, zero, suc, ◌-◌, ◌≤◌, List, length, true, Option, Some, None, refl, sym, subst, arith, inl, inr}
 use Rattle.std.specs.Option.{ForSome}
-use Rattle.ear_core.proofs.Stepping.{covered-edge}
+use Rattle.ear_text.proofs.from_ear_core.Stepping.{covered-edge}
 use Rattle.ear_text.specs.Writing.{ears_text}
 use Rattle.graph_core.proofs.Common.{IsCovered, Graph, IsGraph, IsMultigraph, size, IsWithinLimits}
 use Rattle.graph_text.proofs.NameLists.{AreNames-more}
 use Rattle.graph_text.proofs.NamedReadBack.{Stands-named_text}
 use Rattle.graph_text.proofs.PlainNames.{is_name-plain, length-plain_names, plain-fresh, plain_names-more, plain_names-none}
 use Rattle.graph_text.specs.Common.{NamedGraph, AreNames, plain_names, FitsNames, graph_text}
-use Rattle.bench_outcomes.proofs.GrownSizes.{sound-from, grown-multigraph}
-use Rattle.grow_gen.proofs.SoundGrowth.{sound-first}
-use Rattle.grow_gen.specs.Common.{first_growth, grown}
+use Rattle.bench_top.proofs.from_bench_outcomes.GrownSizes.{sound-from, grown-multigraph}
+use Rattle.bench_tasks.proofs.from_grow_gen.SoundGrowth.{sound-first}
+use Rattle.bench_tasks.specs.from_grow_gen.Common.{first_growth, grown}
 use Rattle.rand_pcg.specs.Lcg.{increment_of, started}
 use Rattle.rand_pcg.specs.Pcg.{multiplier_64}
 use Rattle.report_text.proofs.CommentLines.{given_names-commented}
 use Rattle.report_text.proofs.Comments.{commented-none}
-use Rattle.tree_core.proofs.Common.{IsDerivation, leaves, Shape, partitions-leaves}
+use Rattle.tree_check.proofs.from_tree_core.Common.{IsDerivation, leaves, Shape, partitions-leaves}
 use Rattle.report_text.specs.Common.{IsCommented, derivation_text, ears_report_text, grown_text, with_names_text}
-use Rattle.tree_core.specs.declared.tallies.Tally.{Tally}
-use Rattle.tight_cuts.specs.Common.{Candidate}
-use Rattle.tree_text.specs.Common.{tree_text}
-use Rattle.bench_outcomes.proofs.DerivationTexts.{told}
-use Rattle.bench_outcomes.specs.Common.{EarsGives, double_count, single_count, Grown, IsCountedTree, Converted, DecomposeGives, TellsDerivation, given_or_plain, with_given_names}
-use Rattle.decomposer.specs.Common.{NamedPicks}
-use Rattle.bench_outcomes.specs.declared.status.Status.{Status}
-use Rattle.bench_outcomes.specs.declared.status.Status.TheVariants.{Done, Negative}
-use Rattle.decomposer.specs.declared.orders.NamedOrder.{NamedOrder}
-use Rattle.decomposer.specs.declared.orders.NamedOrder.TheVariants.{First, Last}
+use Rattle.tree_check.specs.from_tree_core.declared.tallies.Tally.{Tally}
+use Rattle.tree_check.specs.from_tight_cuts.Common.{Candidate}
+use Rattle.move_text.specs.from_tree_text.Common.{tree_text}
+use Rattle.bench_top.proofs.from_bench_outcomes.DerivationTexts.{told}
+use Rattle.bench_top.specs.from_bench_outcomes.Common.{EarsGives, double_count, single_count, Grown, IsCountedTree, Converted, DecomposeGives, TellsDerivation, given_or_plain, with_given_names}
+use Rattle.bench_tasks.specs.from_decomposer.Common.{NamedPicks}
+use Rattle.bench_top.specs.from_bench_outcomes.declared.status.Status.{Status}
+use Rattle.bench_top.specs.from_bench_outcomes.declared.status.Status.TheVariants.{Done, Negative}
+use Rattle.bench_tasks.specs.from_decomposer.declared.orders.NamedOrder.{NamedOrder}
+use Rattle.bench_tasks.specs.from_decomposer.declared.orders.NamedOrder.TheVariants.{First, Last}
 use Rattle.bench_top.proofs.ReadGraphs.{IsRead}
 use Rattle.bench_top.proofs.TextsStand.{stands-derived}
 use Rattle.theorems.proofs.CommandOrders.{named-some}

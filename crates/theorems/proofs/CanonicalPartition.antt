@@ -1,6 +1,6 @@
 -- The canonical partition of an elementary graph: its classes are the maximal barriers, so that the
 -- components that a class leaves are factor-critical. A matching covered graph is elementary.
-use Rattle.counting.proofs.Common.{◌≡◌, ◌≢◌, ℕ, Bool, true, false, ◌==◌, ◌&&◌, ◌||◌, refl, sym, ◌∙◌, arith, eq-eqb, List, [], ◌∷◌, subst, ◌↔◌, inl, inr, and_from, both_ways, cases_eq, cases_lt, count_member, count_zero, member_count, not_not, same_tests, true_some, Within, count, Set, complement, none, pair_set, singleton}
+use Rattle.tree_check.proofs.from_counting.Common.{◌≡◌, ◌≢◌, ℕ, Bool, true, false, ◌==◌, ◌&&◌, ◌||◌, refl, sym, ◌∙◌, arith, eq-eqb, List, [], ◌∷◌, subst, ◌↔◌, inl, inr, and_from, both_ways, cases_eq, cases_lt, count_member, count_zero, member_count, not_not, same_tests, true_some, Within, count, Set, complement, none, pair_set, singleton}
 use Rattle.barrier_kit.proofs.Common.{class_found, class_holds_barrier, class_is_barrier, equivalent_back, equivalent_over, equivalent_self, loop_free, perfect_congr, perfect_or_not, restrict, single_barrier, AreCutsMet}
 use Rattle.graph_core.proofs.Common.{adjacent-edge, edges_in_cut, has_ends-cases, is_allowed_found, parity, Allowed, Equivalent, Graph, IsBarrier, IsBicritical, IsClass, IsCovered, IsGraph, IsPerfect, Joined, Walk, adjacent, first_end, has_ends, inside, is_allowed, joined, second_end, size}
 use Rattle.theorems.proofs.AddedEdges.{allowed_from, ends_set}

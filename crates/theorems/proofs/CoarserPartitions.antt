@@ -3,7 +3,7 @@
 -- since names rise with places; so merging first and then passing to places is the same as the
 -- other way.
 use Rattle.std.proofs.Common.{[], ◌≡◌, ◌∙◌, ℕ, zero, suc, ◌+◌, ◌-◌, ◌<◌, Bool, true, false, cond, List, ◌∷◌, map, length, get_or, inl, inr, le-leb, refl, sym, ap, ap₂, arith, subst, slice_index}
-use Rattle.counting.proofs.Common.{IsStrictlyIncreasing, cases_eq, cases_lt, false_from_ne_true, get_or-map, length-map, All-map, same_tests, count_congr, mem-within, all_in_true, last-greatest, last_is_greatest, mem-rising_list, rising_list-rises, Within, count, IsRisingIn, last_of, mem, rising_list}
+use Rattle.tree_check.proofs.from_counting.Common.{IsStrictlyIncreasing, cases_eq, cases_lt, false_from_ne_true, get_or-map, length-map, All-map, same_tests, count_congr, mem-within, all_in_true, last-greatest, last_is_greatest, mem-rising_list, rising_list-rises, Within, count, IsRisingIn, last_of, mem, rising_list}
 use Rattle.graph_core.proofs.Common.{at_place, rep, rep_in, rep_place, place_in, place_is, merged_blocks, Some, alike_down, alike_in, alike_up, same_side, Has, block_has, has_block, mem_last, merged_merges, block_rises, same_blocks, union-singles, place_singles, singles-partition, AreBlocks, IsMerge, IsPartition, block, merged, names_of, place, singles, IsUnion, blocks_in}
 
 rises-far : (xs : List ℕ) → IsStrictlyIncreasing xs → (i j : ℕ) → i < j → j < length xs → slice_index xs i < slice_index xs j

@@ -1,8 +1,8 @@
 -- The quotient at a coarser partition is the quotient of the quotient.
 -- Idea: an edge of the graph between two blocks of q lies between two blocks of p, so an edge of
 -- the quotient at p stands for it, between the same blocks of q; and the other way round.
-use Rattle.counting.proofs.Common.{◌≡◌, ◌≢◌, ◌∙◌, ℕ, ◌<◌, Bool, true, not, ◌&&◌, ◌==◌, List, length, filter, inl, inr, ◌⊎◌, sym, ap, ap₂, arith, eq-eqb, subst, fun_ext, and_from, and_parts, or_left, or_right, nat_tests, same_tests, some_true, true_some, Within, IsRisingIn, mem, rising_pairs, some}
-use Rattle.contraction.proofs.QuotientLaws.{same_pairs}
+use Rattle.tree_check.proofs.from_counting.Common.{◌≡◌, ◌≢◌, ◌∙◌, ℕ, ◌<◌, Bool, true, not, ◌&&◌, ◌==◌, List, length, filter, inl, inr, ◌⊎◌, sym, ap, ap₂, arith, eq-eqb, subst, fun_ext, and_from, and_parts, or_left, or_right, nat_tests, same_tests, some_true, true_some, Within, IsRisingIn, mem, rising_pairs, some}
+use Rattle.report_text.proofs.from_contraction.QuotientLaws.{same_pairs}
 use Rattle.graph_core.proofs.Common.{contracted-ends, contracted-size, place_in, Some, Has, quotient-order, quotient_edge, has_ends-cases, has_ends-own, Graph, IsGraph, first_end, has_ends, second_end, size, IsPartition, contracted, merged, place, singles, blocks_adjacent, quotient, IsUnion}
 use Rattle.theorems.proofs.CoarserPartitions.{down, downs, length-downs, merged-down, merged-unions, place-down}
 

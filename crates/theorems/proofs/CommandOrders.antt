@@ -1,14 +1,14 @@
 -- The orders of the commands always pick. Idea: the first place, the last and a remainder are
 -- places; and a nonempty list has a first place with the least difference of the sides, by
 -- induction on the list.
-use Rattle.counting.proofs.Common.{[], ◌≡◌, ℕ, zero, suc, ◌-◌, ◌<◌, ◌≤◌, List, ◌∷◌, length, map, inl, inr, refl, ap, ap₂, arith, cases_lt, length-map}
-use Rattle.decomposer.specs.Common.{NamedPicks, ScriptPicks, IsMostBalanced, PicksBalanced, gap}
-use Rattle.decomposer.specs.declared.orders.NamedOrder.{NamedOrder}
-use Rattle.decomposer.specs.declared.orders.NamedOrder.TheVariants.{First, Last, Balanced}
+use Rattle.tree_check.proofs.from_counting.Common.{[], ◌≡◌, ℕ, zero, suc, ◌-◌, ◌<◌, ◌≤◌, List, ◌∷◌, length, map, inl, inr, refl, ap, ap₂, arith, cases_lt, length-map}
+use Rattle.bench_tasks.specs.from_decomposer.Common.{NamedPicks, ScriptPicks, IsMostBalanced, PicksBalanced, gap}
+use Rattle.bench_tasks.specs.from_decomposer.declared.orders.NamedOrder.{NamedOrder}
+use Rattle.bench_tasks.specs.from_decomposer.declared.orders.NamedOrder.TheVariants.{First, Last, Balanced}
 use Rattle.theorems.proofs.PickedDerivations.{PicksSome}
-use Rattle.tight_cuts.specs.Common.{Barrier, Candidate, Flow, Origin, Separation, candidate_of}
-use Rattle.tight_cuts.specs.declared.candidate.Candidate.{Candidate as StoredCandidate}
-use Rattle.tight_cuts.specs.declared.candidate.Origin.TheVariants.{Barrier as FromBarrier, Separation as FromSeparation, Flow as FromFlow}
+use Rattle.tree_check.specs.from_tight_cuts.Common.{Barrier, Candidate, Flow, Origin, Separation, candidate_of}
+use Rattle.tree_check.specs.from_tight_cuts.declared.candidate.Candidate.{Candidate as StoredCandidate}
+use Rattle.tree_check.specs.from_tight_cuts.declared.candidate.Origin.TheVariants.{Barrier as FromBarrier, Separation as FromSeparation, Flow as FromFlow}
 
 -- each candidate can be stored
 stored_with : (shore : List ℕ) (inside outside : ℕ) (origin : Origin) → (s : StoredCandidate) × (candidate_of s ≡ record { shore = shore; inside = inside; outside = outside; origin = origin })

@@ -2,9 +2,9 @@
 -- graph is allowed, so is the graph.
 -- Idea: the component of each vertex is listed, so all vertices are then in one, and its walks of
 -- allowed edges are walks of the graph.
-use Rattle.counting.proofs.Common.{◌≡◌, ℕ, ◌≤◌, Bool, true, ◌==◌, ◌&&◌, ◌||◌, List, [], ◌∷◌, length, map, refl, sym, ap, ◌∙◌, arith, subst, inl, inr, eq-eqb, eqb-true, Within, and_parts, cases_eq, cases_lt, count_member, IsIn, mem, mem-rising_list, none, or_cases, or_right, rising_holds, rising_list, rising_only, some_true, true≢false}
+use Rattle.tree_check.proofs.from_counting.Common.{◌≡◌, ℕ, ◌≤◌, Bool, true, ◌==◌, ◌&&◌, ◌||◌, List, [], ◌∷◌, length, map, refl, sym, ap, ◌∙◌, arith, subst, inl, inr, eq-eqb, eqb-true, Within, and_parts, cases_eq, cases_lt, count_member, IsIn, mem, mem-rising_list, none, or_cases, or_right, rising_holds, rising_list, rising_only, some_true, true≢false}
 use Rattle.graph_core.proofs.Common.{adjacent, adjacent_from, Allowed, component_count_le, components, edge_at, Graph, has_ends, HasPerfect, is_allowed, is_least, IsCovered, IsMultigraph, Joined, joined, joined_back, joined_on, joined_walk, length-components, size, some_leader, Walk}
-use Rattle.mcg6_lines.specs.Elementary.{allowed_subgraph, component_graph, elementary_parts}
+use Rattle.bench_top.specs.from_mcg6_lines.Elementary.{allowed_subgraph, component_graph, elementary_parts}
 use Rattle.theorems.proofs.ElementaryComponents.{allowed_graph, allowed_order, allowed_step, covered_component}
 
 -- each listed component is reached from some vertex

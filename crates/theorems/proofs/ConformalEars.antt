@@ -1,12 +1,12 @@
 -- From a conformal stage of a matching covered graph ears lead on to the whole graph: a perfect
 -- matching of the stage and one of the rest are kept together.
-use Rattle.counting.proofs.Common.{◌≡◌, ℕ, ◌+◌, Bool, true, false, cond, ◌==◌, sym, arith, eq-eqb, inl, inr, List, subst, AllByRecursion, or_left, or_right, true≢false, count, Set, complement, none, union}
-use Rattle.ear_core.proofs.AddedEars.{but_none}
-use Rattle.ear_core.proofs.EngineGraphs.{ends-met}
-use Rattle.ear_core.proofs.Mates.{row-is}
-use Rattle.ear_core.proofs.Rests.{covered-meets, filled, rest-perfect}
-use Rattle.ear_core.proofs.Walking.{joins}
-use Rattle.ear_core.specs.Common.{AllowedBy, AreForced, AreNeeded, AreSteps, IsSingle, IsStage, KeepsMates, PlainStep, is_met, other_end, row_edge}
+use Rattle.tree_check.proofs.from_counting.Common.{◌≡◌, ℕ, ◌+◌, Bool, true, false, cond, ◌==◌, sym, arith, eq-eqb, inl, inr, List, subst, AllByRecursion, or_left, or_right, true≢false, count, Set, complement, none, union}
+use Rattle.ear_text.proofs.from_ear_core.AddedEars.{but_none}
+use Rattle.ear_text.proofs.from_ear_core.EngineGraphs.{ends-met}
+use Rattle.ear_text.proofs.from_ear_core.Mates.{row-is}
+use Rattle.ear_text.proofs.from_ear_core.Rests.{covered-meets, filled, rest-perfect}
+use Rattle.ear_text.proofs.from_ear_core.Walking.{joins}
+use Rattle.ear_text.specs.from_ear_core.Common.{AllowedBy, AreForced, AreNeeded, AreSteps, IsSingle, IsStage, KeepsMates, PlainStep, is_met, other_end, row_edge}
 use Rattle.graph_core.proofs.Common.{edge_at, Graph, IsBipartite, IsCovered, IsMultigraph, IsPerfect, first_end, second_end, size}
 use Rattle.match_core.proofs.MatchingEdges.{marked_matching}
 use Rattle.theorems.proofs.EarPaths.{perfect-rows, rows-hold}

@@ -1,7 +1,7 @@
 -- A tight shore of a covered graph is connected: it is one component of the graph without the
 -- other shore. Else it splits into a component C and the rest D, no edge joins the two, and
 -- perfect matchings make |C| both odd and even.
-use Rattle.counting.proofs.Common.{◌≡◌, ℕ, ◌+◌, Bool, true, ◌&&◌, ◌||◌, not, refl, sym, ap, ◌∙◌, arith, inl, inr, cases_Bool, not-false, but_from, but_not, total_add, total_congr, Within, bit, Set, complement, minus}
+use Rattle.tree_check.proofs.from_counting.Common.{◌≡◌, ℕ, ◌+◌, Bool, true, ◌&&◌, ◌||◌, not, refl, sym, ap, ◌∙◌, arith, inl, inr, cases_Bool, not-false, but_from, but_not, total_add, total_congr, Within, bit, Set, complement, minus}
 use Rattle.barrier_kit.proofs.Common.{part_step, cut_matching}
 use Rattle.graph_core.proofs.Common.{joined_outside, joined_walk, walk_joined, parity, joined_self, IsCovered, Graph, IsGraph, edges_in_cut, first_end, in_cut, second_end, size, CutIsTight, Joined, joined}
 

@@ -1,7 +1,7 @@
 -- Perfect matchings of the graph with a vertex set made one: one edge at each vertex outside the
 -- set and one in its cut. A perfect matching with one edge in the cut, without the edges inside, is
 -- one; so that graph is covered if each edge is in such a matching.
-use Rattle.counting.proofs.Common.{◌≡◌, ◌≢◌, ℕ, ◌+◌, ◌*◌, ◌≤◌, Bool, true, false, ◌==◌, ◌&&◌, ◌||◌, not, refl, sym, ap, ap₂, ◌∙◌, arith, eq-eqb, eqb-true, List, [], ◌∷◌, subst₂, inl, inr, and_from, and_parts, both_ways, cases_Bool, cases_eq, cases_lt, count_congr, count_zero, false_from_ne_true, total_none, or_left, or_right, total_add, total_congr, true≢false, Within, bit, count, Set, none}
+use Rattle.tree_check.proofs.from_counting.Common.{◌≡◌, ◌≢◌, ℕ, ◌+◌, ◌*◌, ◌≤◌, Bool, true, false, ◌==◌, ◌&&◌, ◌||◌, not, refl, sym, ap, ap₂, ◌∙◌, arith, eq-eqb, eqb-true, List, [], ◌∷◌, subst₂, inl, inr, and_from, and_parts, both_ways, cases_Bool, cases_eq, cases_lt, count_congr, count_zero, false_from_ne_true, total_none, or_left, or_right, total_add, total_congr, true≢false, Within, bit, count, Set, none}
 use Rattle.graph_core.proofs.Common.{adjacent-edge, adjacent_from, has_ends-cases, Graph, IsCovered, IsConnected, IsGraph, IsPerfect, Joined, Merges, Walk, adjacent, degree, edges_in_cut, first_end, in_cut, inside, second_end, size}
 use Rattle.theorems.specs.Separating.{IsMetOnce}
 

@@ -1,9 +1,9 @@
 -- Cubic graphs as 3-regular ones. The number of edges in a cut is odd if the set is, so a cubic
 -- graph is 2-edge-connected if and only if it is connected and each odd set has three edges in its
 -- cut; and a set without an edge in its cut and one vertex more have three.
-use Rattle.counting.proofs.Common.{◌≡◌, ◌≢◌, ℕ, suc, zero, ◌+◌, ◌*◌, ◌≤◌, Bool, true, false, ◌==◌, ◌&&◌, ◌||◌, not, refl, sym, ap, ◌∙◌, arith, eqb-true, ◌↔◌, ◌⊎◌, inl, inr, ◌%◌, cases_Bool, cases_lt, not-true, true≢false, count_complement, count_congr, count_member, count_plus, count_zero, complement_odd, is_odd_remainder, member_count, odd_pos, odd_three, count_singleton, total_none, Within, bit, count, is_odd, Set, complement, everything, none, singleton, union}
+use Rattle.tree_check.proofs.from_counting.Common.{◌≡◌, ◌≢◌, ℕ, suc, zero, ◌+◌, ◌*◌, ◌≤◌, Bool, true, false, ◌==◌, ◌&&◌, ◌||◌, not, refl, sym, ap, ◌∙◌, arith, eqb-true, ◌↔◌, ◌⊎◌, inl, inr, ◌%◌, cases_Bool, cases_lt, not-true, true≢false, count_complement, count_congr, count_member, count_plus, count_zero, complement_odd, is_odd_remainder, member_count, odd_pos, odd_three, count_singleton, total_none, Within, bit, count, is_odd, Set, complement, everything, none, singleton, union}
 use Rattle.graph_core.proofs.Common.{joined_or_not, parted, Graph, IsConnected, IsCovered, IsGraph, IsMultigraph, first_end, in_cut, second_end, size, HasOnlyTrivialTightCuts, IsNontrivial, IsSide, IsTight}
-use Rattle.grow_gen.specs.Common.{IsCubic}
+use Rattle.bench_tasks.specs.from_grow_gen.Common.{IsCubic}
 use Rattle.theorems.proofs.BrickFacts.{turned_cut}
 use Rattle.theorems.proofs.Quotients.{bipartite-or}
 use Rattle.theorems.proofs.RegularCuts.{tight_size, wide_trivial}

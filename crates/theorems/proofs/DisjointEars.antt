@@ -2,15 +2,15 @@
 -- matching covered. A common vertex is an end of both. A perfect matching of the next stage with
 -- the edge of the first ear there misses this vertex on the old stage, and besides at most the two
 -- other ends; by parity it misses exactly one more, so that one of the ears alone serves.
-use Rattle.counting.proofs.Common.{◌≡◌, ◌≢◌, ℕ, ◌+◌, ◌*◌, ◌≤◌, Bool, true, false, ◌==◌, ◌&&◌, refl, sym, ap, ◌∙◌, arith, eq-eqb, ne_eqb, eqb-true, subst, ◌⊎◌, inl, inr, List, [], ◌∷◌, AllByRecursion, and_from, and_parts, both_ways, cases_Bool, cases_eq, or_cases, or_comm, or_left, or_parts, or_right, total_add, total_at, total_congr, Within, bit, mem, pair_set, put, singleton, total, Set}
+use Rattle.tree_check.proofs.from_counting.Common.{◌≡◌, ◌≢◌, ℕ, ◌+◌, ◌*◌, ◌≤◌, Bool, true, false, ◌==◌, ◌&&◌, refl, sym, ap, ◌∙◌, arith, eq-eqb, ne_eqb, eqb-true, subst, ◌⊎◌, inl, inr, List, [], ◌∷◌, AllByRecursion, and_from, and_parts, both_ways, cases_Bool, cases_eq, or_cases, or_comm, or_left, or_parts, or_right, total_add, total_at, total_congr, Within, bit, mem, pair_set, put, singleton, total, Set}
 use Rattle.graph_core.proofs.Common.{degree_put, edge_at, ends_le_degree, ends_of, sum_degrees, Graph, IsGraph, degree, first_end, second_end, size}
-use Rattle.ear_core.proofs.AddedEars.{odds_at}
-use Rattle.ear_core.proofs.LoneMatchings.{ends-differ}
-use Rattle.ear_core.proofs.NextStages.{met-within}
-use Rattle.ear_core.proofs.ServingEars.{off-same, one-serves}
-use Rattle.ear_core.proofs.Stepping.{still-met}
-use Rattle.ear_core.proofs.TraceEdges.{degree_le, mem_odds, mem_times, trail_has, unmet}
-use Rattle.ear_core.specs.Common.{AreNeeded, AreSteps, IsEar, IsEarList, IsEarPair, IsNeeded, IsPerfectOf, IsPerfectOff, IsStage, IsStep, IsUnrefinable, PlainEars, PlainStep, is_met, last_vertex, next_stage, odds, one, trail, two, with_edges}
+use Rattle.ear_text.proofs.from_ear_core.AddedEars.{odds_at}
+use Rattle.ear_text.proofs.from_ear_core.LoneMatchings.{ends-differ}
+use Rattle.ear_text.proofs.from_ear_core.NextStages.{met-within}
+use Rattle.ear_text.proofs.from_ear_core.ServingEars.{off-same, one-serves}
+use Rattle.ear_text.proofs.from_ear_core.Stepping.{still-met}
+use Rattle.ear_text.proofs.from_ear_core.TraceEdges.{degree_le, mem_odds, mem_times, trail_has, unmet}
+use Rattle.ear_text.specs.from_ear_core.Common.{AreNeeded, AreSteps, IsEar, IsEarList, IsEarPair, IsNeeded, IsPerfectOf, IsPerfectOff, IsStage, IsStep, IsUnrefinable, PlainEars, PlainStep, is_met, last_vertex, next_stage, odds, one, trail, two, with_edges}
 use Rattle.theorems.specs.Ears.{IsDisjoint}
 
 -- edges q of a stage f that miss x, and all other vertices of f but y and z once

@@ -2,24 +2,24 @@
 -- outcome says. Done is the status of no bad file and of no refusal, so all files were read and the
 -- graph is covered, or both trees are derivations; and each read gave the bytes of its file.
 use Rattle.std.proofs.Common.{◌≡◌, ◌∙◌, ℕ, List, [], ◌∷◌, Option, Some, None, Ok, option_map, refl, sym, ap, subst, inl, inr, codes}
-use Rattle.outside.specs.Common.{Answer, AnswersInTurn, NamedFile, file_named}
+use Rattle.bench_top.specs.from_outside.Common.{Answer, AnswersInTurn, NamedFile, file_named}
 use Rattle.graph_core.proofs.Common.{Graph, IsCovered}
 use Rattle.graph_text.specs.Common.{NamedGraph, either_version}
-use Rattle.line_text.proofs.ExactlyOne.{Stands-from_reading}
-use Rattle.line_text.specs.Common.{reading_of}
-use Rattle.tree_core.proofs.Common.{IsDerivation, Shape}
-use Rattle.tree_text.specs.Common.{tree_format}
-use Rattle.decomposer.specs.Common.{NamedPicks, ScriptPicks, order_named}
-use Rattle.decomposer.specs.declared.orders.NamedOrder.{NamedOrder}
-use Rattle.tight_cuts.specs.Common.{Candidate}
+use Rattle.graph_core.proofs.from_line_text.ExactlyOne.{Stands-from_reading}
+use Rattle.graph_core.specs.from_line_text.Common.{reading_of}
+use Rattle.tree_check.proofs.from_tree_core.Common.{IsDerivation, Shape}
+use Rattle.move_text.specs.from_tree_text.Common.{tree_format}
+use Rattle.bench_tasks.specs.from_decomposer.Common.{NamedPicks, ScriptPicks, order_named}
+use Rattle.bench_tasks.specs.from_decomposer.declared.orders.NamedOrder.{NamedOrder}
+use Rattle.tree_check.specs.from_tight_cuts.Common.{Candidate}
 use Rattle.bench_tasks.specs.Common.{OnTrees, decompose_in, All, Bad, Absent, Loaded, command_of, file_read, graph_file, loaded_as, on_picks, on_trees, pick_file, picks_given, tree_file, tree_given, trees_given, Task}
 use Rattle.bench_tasks.specs.Tasks as task
 use Rattle.bench_tasks.specs.declared.verbs.GraphVerb.TheVariants.{Analyse, Decompose, Ears}
 use Rattle.bench_tasks.specs.declared.verbs.PicksVerb.TheVariants.{DecomposeBy}
 use Rattle.bench_tasks.specs.declared.verbs.TreesVerb.{TreesVerb}
 use Rattle.bench_tasks.specs.declared.verbs.TreesVerb.TheVariants.{Compare, Script}
-use Rattle.bench_outcomes.specs.Common.{DecomposeGives, EarsGives, LoadedGives, Succeeds}
-use Rattle.bench_outcomes.specs.declared.status.Status.TheVariants.{BadInput, Done}
+use Rattle.bench_top.specs.from_bench_outcomes.Common.{DecomposeGives, EarsGives, LoadedGives, Succeeds}
+use Rattle.bench_top.specs.from_bench_outcomes.declared.status.Status.TheVariants.{BadInput, Done}
 use Rattle.bench_top.proofs.Completeness.{done-given}
 use Rattle.bench_top.specs.Given.{AreGiven, GivenOutcome}
 use Rattle.bench_top.specs.Writes.{WroteWhole}

@@ -2,14 +2,14 @@
 -- Idea: an ear with k edges has k + 1 vertices, of which two are on the stage; so with each ear
 -- the edges less the vertices grow by one, from one edge with two vertices to all edges with all
 -- vertices that they meet.
-use Rattle.counting.proofs.Common.{[], ◌≡◌, ℕ, suc, ◌+◌, ◌≤◌, ◌≢◌, Bool, true, false, ◌==◌, ◌&&◌, ◌||◌, not, refl, sym, ap, ap₂, ◌∙◌, arith, eq-eqb, ne_eqb, eqb-true, inl, inr, List, ◌∷◌, length, ◌⊎◌, subst, cases_eq, cases_Bool, both_ways, true≢false, or_left, or_right, count_congr, count_of_one, times_mem, total_add, total_congr, total_ones, total_zero, Within, bit, count, total, mem, times, Set, everything, singleton}
+use Rattle.tree_check.proofs.from_counting.Common.{[], ◌≡◌, ℕ, suc, ◌+◌, ◌≤◌, ◌≢◌, Bool, true, false, ◌==◌, ◌&&◌, ◌||◌, not, refl, sym, ap, ap₂, ◌∙◌, arith, eq-eqb, ne_eqb, eqb-true, inl, inr, List, ◌∷◌, length, ◌⊎◌, subst, cases_eq, cases_Bool, both_ways, true≢false, or_left, or_right, count_congr, count_of_one, times_mem, total_add, total_congr, total_ones, total_zero, Within, bit, count, total, mem, times, Set, everything, singleton}
 use Rattle.barrier_kit.proofs.Common.{cut_edge}
-use Rattle.ear_core.proofs.AddedEars.{evens_at, new-met, odds_at}
-use Rattle.ear_core.proofs.EngineGraphs.{ends-met}
-use Rattle.ear_core.proofs.FirstStage.{one-ends}
-use Rattle.ear_core.proofs.NextStages.{met-within, second_ear}
-use Rattle.ear_core.proofs.TraceEdges.{degree_le, edges-within, ends_of-other_end, mem_odds, mem_times, met-some, some-met, trail_has, unmet}
-use Rattle.ear_core.specs.Common.{AreSteps, IsEarList, PlainEars, PlainStep, one, two, Follow, IsEar, last_vertex, other_end, trail, odds, is_met, with_edges}
+use Rattle.ear_text.proofs.from_ear_core.AddedEars.{evens_at, new-met, odds_at}
+use Rattle.ear_text.proofs.from_ear_core.EngineGraphs.{ends-met}
+use Rattle.ear_text.proofs.from_ear_core.FirstStage.{one-ends}
+use Rattle.ear_text.proofs.from_ear_core.NextStages.{met-within, second_ear}
+use Rattle.ear_text.proofs.from_ear_core.TraceEdges.{degree_le, edges-within, ends_of-other_end, mem_odds, mem_times, met-some, some-met, trail_has, unmet}
+use Rattle.ear_text.specs.from_ear_core.Common.{AreSteps, IsEarList, PlainEars, PlainStep, one, two, Follow, IsEar, last_vertex, other_end, trail, odds, is_met, with_edges}
 use Rattle.graph_core.proofs.Common.{degree_congr, IsCovered, Graph, IsGraph, IsMultigraph, first_end, second_end, size}
 use Rattle.theorems.specs.Ears.{ear_count}
 

@@ -2,12 +2,12 @@
 -- Idea: from a vertex that the one matching leads out of the stage the two matchings are followed
 -- in turn; the vertices passed hold their mates, so a new one comes each time, and the path ends
 -- on the stage.
-use Rattle.counting.proofs.Common.{[], ◌≡◌, ℕ, zero, suc, ◌+◌, ◌≤◌, ◌<◌, true, false, not, ◌&&◌, refl, sym, ap, ◌∙◌, arith, inl, inr, List, ◌∷◌, subst, Bool, and_parts, both_ways, cases_Bool, cases_eq, false_from_ne_true, or_left, or_right, true≢false, count_more, count_member, count_zero, mem-rising_list, Within, count, mem, rising_list, Set, complement, none}
-use Rattle.ear_core.proofs.MatedPaths.{fewer_left, next_is_clear, next_within, passed_too, path_ends, path_goes_on}
-use Rattle.ear_core.proofs.Mates.{AreMates}
-use Rattle.ear_core.proofs.Rounds.{left-clear, none-left, one-more, passed-too, path-mated, with_trail}
-use Rattle.ear_core.proofs.TraceEdges.{start_mem}
-use Rattle.ear_core.specs.Common.{AreMatedEars, HoldsMatesOff, LeadsAlternately, IsClear, IsPerfectRows, KeepsMates, is_left, mate, PlainEar, trail, is_met}
+use Rattle.tree_check.proofs.from_counting.Common.{[], ◌≡◌, ℕ, zero, suc, ◌+◌, ◌≤◌, ◌<◌, true, false, not, ◌&&◌, refl, sym, ap, ◌∙◌, arith, inl, inr, List, ◌∷◌, subst, Bool, and_parts, both_ways, cases_Bool, cases_eq, false_from_ne_true, or_left, or_right, true≢false, count_more, count_member, count_zero, mem-rising_list, Within, count, mem, rising_list, Set, complement, none}
+use Rattle.ear_text.proofs.from_ear_core.MatedPaths.{fewer_left, next_is_clear, next_within, passed_too, path_ends, path_goes_on}
+use Rattle.ear_text.proofs.from_ear_core.Mates.{AreMates}
+use Rattle.ear_text.proofs.from_ear_core.Rounds.{left-clear, none-left, one-more, passed-too, path-mated, with_trail}
+use Rattle.ear_text.proofs.from_ear_core.TraceEdges.{start_mem}
+use Rattle.ear_text.specs.from_ear_core.Common.{AreMatedEars, HoldsMatesOff, LeadsAlternately, IsClear, IsPerfectRows, KeepsMates, is_left, mate, PlainEar, trail, is_met}
 use Rattle.graph_core.proofs.Common.{degree_congr, Graph, IsGraph, degree, size, IsPerfect}
 use Rattle.match_core.proofs.MatchingEdges.{marked-edges, marked-of, marked_matching}
 use Rattle.match_core.specs.Common.{edges_of}

@@ -1,13 +1,13 @@
 -- Each list of ears of a graph is an ear list, or has a first refusal. Each rule is decided: the
 -- tests compute, and whether the graph of a stage has a perfect matching with an edge is asked of
 -- the listed edges.
-use Rattle.counting.proofs.Common.{◌≡◌, ◌⊎◌, ◌↔◌, ℕ, ◌+◌, true, List, [], ◌∷◌, Option, Some, None, refl, inl, inr, all_or_least, both_ways, cases_Bool, Within, Set, pair_set, singleton}
+use Rattle.tree_check.proofs.from_counting.Common.{◌≡◌, ◌⊎◌, ◌↔◌, ℕ, ◌+◌, true, List, [], ◌∷◌, Option, Some, None, refl, inl, inr, all_or_least, both_ways, cases_Bool, Within, Set, pair_set, singleton}
 use Rattle.barrier_kit.proofs.Common.{perfect_or_not}
 use Rattle.graph_core.proofs.Common.{Graph, IsMultigraph, first_end, second_end, size, HasPerfect}
-use Rattle.ear_core.specs.Common.{AreSteps, IsEarList, PlainEars, PlainStep, next_stage, PlainWhy, ends_early, stage_not_covered, IsFirstRefusal, IsLeastUnallowed, IsRefused, step_fault, AllowedBy, IsStage}
-use Rattle.ear_core.proofs.EngineGraphs.{edge_serves, served_listed}
-use Rattle.ear_core.proofs.FirstStage.{first-stage}
-use Rattle.ear_core.proofs.Refusing.{fine-stage, step-nearly, step-none, step_odds}
+use Rattle.ear_text.specs.from_ear_core.Common.{AreSteps, IsEarList, PlainEars, PlainStep, next_stage, PlainWhy, ends_early, stage_not_covered, IsFirstRefusal, IsLeastUnallowed, IsRefused, step_fault, AllowedBy, IsStage}
+use Rattle.ear_text.proofs.from_ear_core.EngineGraphs.{edge_serves, served_listed}
+use Rattle.ear_text.proofs.from_ear_core.FirstStage.{first-stage}
+use Rattle.ear_text.proofs.from_ear_core.Refusing.{fine-stage, step-nearly, step-none, step_odds}
 
 -- what is the same as having a perfect matching is decided
 decided : (A : Type 0) (h : Graph) (r : Set) → A ↔ HasPerfect h r → A ⊎ (A → ⊥)

@@ -2,18 +2,18 @@
 -- exists.
 -- Idea: one perfect matching is kept; another one that holds an edge leading out of the stage
 -- makes ears with it, of which one or two serve (the two-ear theorem).
-use Rattle.counting.proofs.Common.{[], ◌≡◌, ℕ, zero, suc, ◌+◌, ◌<◌, ◌⊎◌, true, not, ◌&&◌, ◌||◌, refl, arith, inl, inr, List, ◌∷◌, false, and_parts, cases_eq, not-true, count_member, count_zero, AllByRecursion, Within, count, mem, Set, complement, none, singleton, union}
+use Rattle.tree_check.proofs.from_counting.Common.{[], ◌≡◌, ℕ, zero, suc, ◌+◌, ◌<◌, ◌⊎◌, true, not, ◌&&◌, ◌||◌, refl, arith, inl, inr, List, ◌∷◌, false, and_parts, cases_eq, not-true, count_member, count_zero, AllByRecursion, Within, count, mem, Set, complement, none, singleton, union}
 use Rattle.barrier_kit.proofs.Common.{perfect_or_not}
-use Rattle.ear_core.proofs.BipartiteStages.{bipartite-found}
-use Rattle.ear_core.proofs.EngineGraphs.{served_listed}
-use Rattle.ear_core.proofs.FirstStage.{first-stage}
-use Rattle.ear_core.proofs.LoneLeads.{lone-leads, lone-single}
-use Rattle.ear_core.proofs.LoneMatchings.{none-forced, single-forced}
-use Rattle.ear_core.proofs.Mates.{rows-mates}
-use Rattle.ear_core.proofs.NeededPairs.{found-needed}
-use Rattle.ear_core.proofs.Searching.{beside-here, beside-later, found-one, found-two, never-none, no-two-later, none-beside-later, two-here, two-later}
-use Rattle.ear_core.proofs.Stepping.{all-on, covered-allowed, fewer-off, first-keeps, led-out, round-candidates, step-keeps}
-use Rattle.ear_core.specs.Common.{AreCandidates, IsChosen, IsPerfectRows, KeepsMates, Serves, ends_of_ear, row_edge, FindsBeside, FindsTwo, NoTwoServe, NoneServesBeside, AreForced, AreNeeded, AreSteps, IsEarList, IsForced, IsNeeded, IsSingle, IsStep, IsUnrefinable, PlainEar, PlainEars, PlainStep, TakesSingles, next_stage, one, two, LeadsAtTwo, listed, IsStage, is_met}
+use Rattle.ear_text.proofs.from_ear_core.BipartiteStages.{bipartite-found}
+use Rattle.ear_text.proofs.from_ear_core.EngineGraphs.{served_listed}
+use Rattle.ear_text.proofs.from_ear_core.FirstStage.{first-stage}
+use Rattle.ear_text.proofs.from_ear_core.LoneLeads.{lone-leads, lone-single}
+use Rattle.ear_text.proofs.from_ear_core.LoneMatchings.{none-forced, single-forced}
+use Rattle.ear_text.proofs.from_ear_core.Mates.{rows-mates}
+use Rattle.ear_text.proofs.from_ear_core.NeededPairs.{found-needed}
+use Rattle.ear_text.proofs.from_ear_core.Searching.{beside-here, beside-later, found-one, found-two, never-none, no-two-later, none-beside-later, two-here, two-later}
+use Rattle.ear_text.proofs.from_ear_core.Stepping.{all-on, covered-allowed, fewer-off, first-keeps, led-out, round-candidates, step-keeps}
+use Rattle.ear_text.specs.from_ear_core.Common.{AreCandidates, IsChosen, IsPerfectRows, KeepsMates, Serves, ends_of_ear, row_edge, FindsBeside, FindsTwo, NoTwoServe, NoneServesBeside, AreForced, AreNeeded, AreSteps, IsEarList, IsForced, IsNeeded, IsSingle, IsStep, IsUnrefinable, PlainEar, PlainEars, PlainStep, TakesSingles, next_stage, one, two, LeadsAtTwo, listed, IsStage, is_met}
 use Rattle.graph_core.proofs.Common.{IsCovered, Graph, IsBipartite, IsGraph, IsMultigraph, first_end, second_end, size, with_ends, IsPerfect}
 use Rattle.match_core.proofs.MatchingEdges.{marked_matching}
 use Rattle.match_core.specs.Common.{MatchingValue, edges_of}

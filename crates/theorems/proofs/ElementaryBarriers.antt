@@ -1,10 +1,10 @@
 -- In an elementary graph a vertex set that is neither empty nor all has an edge of some perfect
 -- matching in its cut, since walks of allowed edges lead out of it. So what is true of the barriers
 -- of a covered graph is true of its barriers.
-use Rattle.counting.proofs.Common.{◌≡◌, ℕ, true, false, ◌&&◌, refl, ap, arith, inl, inr, and_from, and_parts, at_le_total, both_ways, cases_Bool, some_none, some_true, Within, bit, none, singleton, some, Set}
+use Rattle.tree_check.proofs.from_counting.Common.{◌≡◌, ℕ, true, false, ◌&&◌, refl, ap, arith, inl, inr, and_from, and_parts, at_le_total, both_ways, cases_Bool, some_none, some_true, Within, bit, none, singleton, some, Set}
 use Rattle.barrier_kit.proofs.Common.{AreCutsMet}
 use Rattle.graph_core.proofs.Common.{IsClosed, Walk-stays, is_allowed_says, Graph, IsGraph, IsPerfect, has_ends, in_cut, is_allowed, size}
-use Rattle.matching_digraph.proofs.TightShores.{ends_within}
+use Rattle.quick_kinds.proofs.from_matching_digraph.TightShores.{ends_within}
 use Rattle.theorems.proofs.TwoExtendable.{cut_from_ends}
 use Rattle.theorems.specs.Barriers.{IsElementary, allowed_adjacent}
 

@@ -1,14 +1,14 @@
 -- An elementary component of a graph with a perfect matching is matching covered. Allowed edges do
 -- not leave it, so a perfect matching of the graph contains one of it. The new numbers of vertices
 -- and of edges are their ranks.
-use Rattle.counting.proofs.Common.{◌≡◌, ◌≢◌, ℕ, suc, zero, ◌+◌, ◌-◌, ◌*◌, ◌≤◌, Bool, true, false, cond, ◌==◌, ◌&&◌, ◌||◌, not, List, [], ◌∷◌, ◌++◌, length, refl, sym, ap, ap₂, ◌∙◌, arith, subst, inl, inr, eq-eqb, eqb-true, get_or, get_or-append-add, Within, and_from, and_parts, append-nil, bit, both_ways, cases_Bool, cases_eq, count, count_congr, count_mem_length, get_or_append_left, IsRisingIn, length-map, length-rising_list, list_any, list_any-append, mem, mem-rising_list, mem-within, member_ranked, none, rank_once, rising_list, rising_list-rises, same_tests, Set, some, some_true, true_some, true≢false, two_members}
+use Rattle.tree_check.proofs.from_counting.Common.{◌≡◌, ◌≢◌, ℕ, suc, zero, ◌+◌, ◌-◌, ◌*◌, ◌≤◌, Bool, true, false, cond, ◌==◌, ◌&&◌, ◌||◌, not, List, [], ◌∷◌, ◌++◌, length, refl, sym, ap, ap₂, ◌∙◌, arith, subst, inl, inr, eq-eqb, eqb-true, get_or, get_or-append-add, Within, and_from, and_parts, append-nil, bit, both_ways, cases_Bool, cases_eq, count, count_congr, count_mem_length, get_or_append_left, IsRisingIn, length-map, length-rising_list, list_any, list_any-append, mem, mem-rising_list, mem-within, member_ranked, none, rank_once, rising_list, rising_list-rises, same_tests, Set, some, some_true, true_some, true≢false, two_members}
 use Rattle.graph_core.proofs.Common.{adjacent, adjacent_from, adjacent-ends, degree, degree-inside, degree_congr, edge_at, first_end, Graph, has_ends, has_ends-back, has_ends-cases, has_ends-own, HasPerfect, in_cut, inside, is_allowed, is_allowed_found, is_allowed_says, IsConnected, IsCovered, IsGraph, IsMultigraph, IsPerfect, Joined, joined, joined_back, joined_on, joined_self, joined_walk, joins, second_end, size, walk_joined, Walk, with_ends}
 use Rattle.graph6_text.proofs.DistinctPairs.{each_at}
 use Rattle.two_ears.proofs.AddedEdges.{degree-added}
-use Rattle.ear_core.proofs.RankedStages.{rank-within}
-use Rattle.mcg6_lines.specs.Elementary.{allowed_subgraph, component_graph, number_in}
-use Rattle.mcg6_lines.proofs.Components.{same_number}
-use Rattle.mcg6_lines.proofs.TakenEdges.{each_taken, taken, taken-next}
+use Rattle.ear_text.proofs.from_ear_core.RankedStages.{rank-within}
+use Rattle.bench_top.specs.from_mcg6_lines.Elementary.{allowed_subgraph, component_graph, number_in}
+use Rattle.bench_top.proofs.from_mcg6_lines.Components.{same_number}
+use Rattle.bench_top.proofs.from_mcg6_lines.TakenEdges.{each_taken, taken, taken-next}
 
 -- adjacent in the subgraph of the allowed edges: joined by an allowed edge
 any_taken : (g : Graph) (test : Set) (u v k : ℕ) → list_any (joins u v) (taken (λ e. (first_end g e, second_end g e)) test k) ≡ some k (λ e. test e && has_ends g u v e)

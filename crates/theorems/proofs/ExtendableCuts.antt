@@ -2,7 +2,7 @@
 -- tight cut. Any two edges of a tight cut have a common end, so all have one vertex; the other
 -- vertices of its shore have an edge to it in some perfect matching, which then has two edges
 -- there.
-use Rattle.counting.proofs.Common.{◌≡◌, ◌≢◌, ℕ, ◌≤◌, Bool, true, false, ◌==◌, ◌&&◌, not, refl, sym, ap, ◌∙◌, arith, eq-eqb, eqb-true, subst, ◌⊎◌, inl, inr, and_parts, apart_denied, both_ways, but_not, cases_Bool, cases_eq, count_member, count_minus, not-true, scan, Within, Set, complement, minus, none, singleton}
+use Rattle.tree_check.proofs.from_counting.Common.{◌≡◌, ◌≢◌, ℕ, ◌≤◌, Bool, true, false, ◌==◌, ◌&&◌, not, refl, sym, ap, ◌∙◌, arith, eq-eqb, eqb-true, subst, ◌⊎◌, inl, inr, and_parts, apart_denied, both_ways, but_not, cases_Bool, cases_eq, count_member, count_minus, not-true, scan, Within, Set, complement, minus, none, singleton}
 use Rattle.barrier_kit.proofs.Common.{cut_edge, cut_matching, nontrivial-turned, tight-turned}
 use Rattle.graph_core.proofs.Common.{has_ends-back, has_ends-cases, one_end, two_ends_le_degree, Graph, IsBipartite, IsConnected, IsCovered, IsMultigraph, first_end, has_ends, in_cut, second_end, size, HasOnlyTrivialTightCuts, HasPerfect, IsBicritical, IsEnd, IsNontrivial, IsTight}
 use Rattle.theorems.proofs.BrickFacts.{three_brick}

@@ -1,7 +1,7 @@
 -- A bipartite graph with six vertices or more is a brace if and only if it is connected, has a
 -- perfect matching and is 2-extendable. An edge of the matching has no end in common with a given
 -- edge, so that both lie in a perfect matching.
-use Rattle.counting.proofs.Common.{◌≡◌, ℕ, ◌+◌, ◌≤◌, Bool, true, false, ◌==◌, ◌&&◌, ◌||◌, not, refl, sym, ◌∙◌, arith, eq-eqb, ◌↔◌, inl, inr, both_ways, count_member, total_add, total_le, Within, bit, Set, none}
+use Rattle.tree_check.proofs.from_counting.Common.{◌≡◌, ℕ, ◌+◌, ◌≤◌, Bool, true, false, ◌==◌, ◌&&◌, ◌||◌, not, refl, sym, ◌∙◌, arith, eq-eqb, ◌↔◌, inl, inr, both_ways, count_member, total_add, total_le, Within, bit, Set, none}
 use Rattle.graph_core.proofs.Common.{IsSide, IsConnected, IsCovered, Graph, IsMultigraph, first_end, second_end, size, HasPerfect, HasOnlyTrivialTightCuts, covered_perfect}
 use Rattle.theorems.proofs.RegularDegrees.{perfect_size}
 use Rattle.theorems.specs.Braces.{IsTwoExtendable}

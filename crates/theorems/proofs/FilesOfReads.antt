@@ -2,10 +2,10 @@
 -- value, and the other reads gave the other files. The files are named by their places, so that a
 -- name finds no later file; a read that failed gave no file, and one of a file that is too long one
 -- that is not read.
-use Rattle.counting.proofs.Common.{◌≡◌, ◌<◌, ℕ, ◌+◌, false, cond, List, [], ◌∷◌, length, Option, Some, None, Result, Ok, Err, sym, ap, ◌∙◌, arith, lt-ltb, bytes_eq, nat_tests}
-use Rattle.outside.specs.Common.{Answer, AnswersInTurn, NamedFile, file_named, most_bytes}
-use Rattle.outside.specs.declared.shelf.ShelfFault.TheVariants.{Failed, TooLong, Memory}
-use Rattle.line_text.specs.declared.faults.FaultKind.{FaultKind}
+use Rattle.tree_check.proofs.from_counting.Common.{◌≡◌, ◌<◌, ℕ, ◌+◌, false, cond, List, [], ◌∷◌, length, Option, Some, None, Result, Ok, Err, sym, ap, ◌∙◌, arith, lt-ltb, bytes_eq, nat_tests}
+use Rattle.bench_top.specs.from_outside.Common.{Answer, AnswersInTurn, NamedFile, file_named, most_bytes}
+use Rattle.bench_top.specs.from_outside.declared.shelf.ShelfFault.TheVariants.{Failed, TooLong, Memory}
+use Rattle.graph_core.specs.from_line_text.declared.faults.FaultKind.{FaultKind}
 use Rattle.bench_tasks.specs.Common.{All, Loaded, file_read, pick_file}
 use Rattle.bench_top.specs.Given.{AreGiven}
 

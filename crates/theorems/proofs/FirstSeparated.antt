@@ -1,11 +1,11 @@
 -- The pair that the third part takes at an edge is the first that a tight set separates: the search
 -- takes the first pair of a list that passes its test, the list is in lexicographic order, and
 -- the test says what the words say.
-use Rattle.counting.proofs.Common.{◌≡◌, ℕ, ◌⊎◌, true, Option, Some, None, refl, ap, inl, inr, arith, both_ways, false_from_ne_true, Within, ComesBefore}
+use Rattle.tree_check.proofs.from_counting.Common.{◌≡◌, ℕ, ◌⊎◌, true, Option, Some, None, refl, ap, inl, inr, arith, both_ways, false_from_ne_true, Within, ComesBefore}
 use Rattle.graph_core.proofs.Common.{Graph, IsGraph, size}
-use Rattle.tight_cuts.proofs.EdgeLoop.{first_pair, no_pair}
-use Rattle.tight_cuts.proofs.FirstPairs.{before_first, no_first}
-use Rattle.tight_cuts.specs.Common.{first_separated, greater_end, is_separated, lesser_end}
+use Rattle.tree_check.proofs.from_tight_cuts.EdgeLoop.{first_pair, no_pair}
+use Rattle.tree_check.proofs.from_tight_cuts.FirstPairs.{before_first, no_first}
+use Rattle.tree_check.specs.from_tight_cuts.Common.{first_separated, greater_end, is_separated, lesser_end}
 use Rattle.theorems.proofs.Separated.{separated-words}
 use Rattle.theorems.specs.CutWords.{IsFirstSeparated, IsSeparated}
 

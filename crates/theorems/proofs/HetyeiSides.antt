@@ -1,10 +1,10 @@
 -- A bipartite stage with an ear whose ends lie on opposite sides is bipartite.
 -- Idea: the vertices along the ear are put on the two sides in turn. Its length is odd, so its
 -- last vertex comes to the side where it stood.
-use Rattle.counting.proofs.Common.{[], ◌≡◌, ◌∙◌, ℕ, ◌≤◌, Bool, true, false, cond, not, ◌&&◌, ◌||◌, ◌==◌, List, ◌∷◌, length, inl, inr, refl, sym, ap, ap₂, arith, eq-eqb, ne_eqb, eqb-true, cases_eq, or_cases, true≢false, not_not, Within, bit, is_odd, mem, times, Set}
-use Rattle.ear_core.proofs.EngineGraphs.{ends-met}
-use Rattle.ear_core.proofs.TraceEdges.{mem_times, start_mem, trail_has, two_less_odd}
-use Rattle.ear_core.specs.Common.{Follow, IsEar, last_vertex, other_end, trail, is_met, with_edges}
+use Rattle.tree_check.proofs.from_counting.Common.{[], ◌≡◌, ◌∙◌, ℕ, ◌≤◌, Bool, true, false, cond, not, ◌&&◌, ◌||◌, ◌==◌, List, ◌∷◌, length, inl, inr, refl, sym, ap, ap₂, arith, eq-eqb, ne_eqb, eqb-true, cases_eq, or_cases, true≢false, not_not, Within, bit, is_odd, mem, times, Set}
+use Rattle.ear_text.proofs.from_ear_core.EngineGraphs.{ends-met}
+use Rattle.ear_text.proofs.from_ear_core.TraceEdges.{mem_times, start_mem, trail_has, two_less_odd}
+use Rattle.ear_text.specs.from_ear_core.Common.{Follow, IsEar, last_vertex, other_end, trail, is_met, with_edges}
 use Rattle.graph_core.proofs.Common.{ends_of, Graph, first_end, in_cut, second_end, size}
 
 -- the vertices of the list on two sides in turn, the first on side c

@@ -1,6 +1,6 @@
 -- A run that is done, of the installed program: what it was given and what it printed.
 use Rattle.std.proofs.Common.{◌≡◌, ◌∙◌, ℕ, List, ◌++◌, Some, ap}
-use Rattle.outside.specs.Common.{HasPrinted, IsOpened, NamedFile, NotesFiles, OpenState, PrintState}
+use Rattle.bench_top.specs.from_outside.Common.{HasPrinted, IsOpened, NamedFile, NotesFiles, OpenState, PrintState}
 use Rattle.bench_top.proofs.Reported.{given-in_turn, told-printed}
 use Rattle.theorems.specs.Outcomes.{IsDoneRun, IsInstalledRun}
 

@@ -1,6 +1,6 @@
 -- Two sets of edges that meet each vertex on one side of a cut once and have one edge in the cut,
 -- the same, are together a perfect matching with this cut edge.
-use Rattle.counting.proofs.Common.{◌+◌, ◌≡◌, ℕ, Bool, true, false, ◌==◌, ◌&&◌, ◌||◌, not, refl, sym, ap, ap₂, ◌∙◌, arith, eqb-true, and_from, both_ways, count_congr, only_one, true≢false, Within, Set, complement, none}
+use Rattle.tree_check.proofs.from_counting.Common.{◌+◌, ◌≡◌, ℕ, Bool, true, false, ◌==◌, ◌&&◌, ◌||◌, not, refl, sym, ap, ap₂, ◌∙◌, arith, eqb-true, and_from, both_ways, count_congr, only_one, true≢false, Within, Set, complement, none}
 use Rattle.graph_core.proofs.Common.{Graph, IsPerfect, degree, edges_in_cut, first_end, in_cut, inside, second_end, size}
 
 -- matchings of the two sides with the same cut edge, together

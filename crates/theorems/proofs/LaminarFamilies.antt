@@ -1,12 +1,12 @@
 -- A maximal family of tight shores of which no two cross is that of a derivation, and the shores
 -- of a derivation are such a family. By induction: the members inside a cut are such a family of
 -- its kept side, and those not inside it one of its merged side.
-use Rattle.counting.proofs.Common.{◌≡◌, ◌⊎◌, ◌↔◌, ℕ, zero, suc, ◌≤◌, Bool, true, false, not, ◌&&◌, List, [], ◌∷◌, filter, length, refl, sym, ap, arith, inl, inr, subst, and_parts, and_from, both_ways, cases_Bool, false_from_ne_true, all_in_true, true_all_in, Within, IsIn, is_subset, mem}
+use Rattle.tree_check.proofs.from_counting.Common.{◌≡◌, ◌⊎◌, ◌↔◌, ℕ, zero, suc, ◌≤◌, Bool, true, false, not, ◌&&◌, List, [], ◌∷◌, filter, length, refl, sym, ap, arith, inl, inr, subst, and_parts, and_from, both_ways, cases_Bool, false_from_ne_true, all_in_true, true_all_in, Within, IsIn, is_subset, mem}
 use Rattle.graph_core.proofs.Common.{Apart, Below, IsCovered, Graph, IsGraph, singles}
-use Rattle.tree_core.proofs.Common.{kept-length, merged-length, cut-shore, shore-cut, IsDerivation, IsDerivationAt, IsLeafAt, IsTightShore, kept_at, merged_at, Shape, cut, leaf, shores}
-use Rattle.move_laws.proofs.BigShores.{Stage, big_cut, big_some}
-use Rattle.move_laws.proofs.Rising.{bounds}
-use Rattle.move_laws.proofs.SingleVertices.{singles_stage}
+use Rattle.tree_check.proofs.from_tree_core.Common.{kept-length, merged-length, cut-shore, shore-cut, IsDerivation, IsDerivationAt, IsLeafAt, IsTightShore, kept_at, merged_at, Shape, cut, leaf, shores}
+use Rattle.tree_check.proofs.from_move_laws.BigShores.{Stage, big_cut, big_some}
+use Rattle.tree_check.proofs.from_move_laws.Rising.{bounds}
+use Rattle.tree_check.proofs.from_move_laws.SingleVertices.{singles_stage}
 use Rattle.theorems.proofs.ListMembers.{filter_in, in_filter, in_left, in_parts, in_right}
 use Rattle.theorems.proofs.NestedCuts.{CutAt, Nested, apart_turned, apart_up, cut_of_set, kept_down, kept_stage, kept_up, merged_down, merged_stage, nested-uncrossed, over_or_below, over_up, same_shores, uncrossed-nested}
 use Rattle.theorems.proofs.NestedFamilies.{FamilyAt, cut_at, family_at}

@@ -1,34 +1,34 @@
 -- For every query each line of a list has an output, or it is bad with a first error. So each list
 -- has an outcome. Idea: the line stands for a multigraph or has a first error, and of a multigraph
 -- it can be told whether it is covered, of which kind it is, and how its leaves are counted.
-use Rattle.counting.proofs.Common.{◌≡◌, ◌≢◌, ◌⊎◌, ◌↔◌, ℕ, List, [], Bool, true, false, Option, Some, None, Result, Ok, Err, is_none, refl, sym, subst, inl, inr, arith, IsTrue, IsFalse, true≢false, both_ways, cases_eq, cases_lt, Set, none, mem}
+use Rattle.tree_check.proofs.from_counting.Common.{◌≡◌, ◌≢◌, ◌⊎◌, ◌↔◌, ℕ, List, [], Bool, true, false, Option, Some, None, Result, Ok, Err, is_none, refl, sym, subst, inl, inr, arith, IsTrue, IsFalse, true≢false, both_ways, cases_eq, cases_lt, Set, none, mem}
 use Rattle.std.specs.Global.{Vec}
-use Rattle.line_text.specs.declared.faults.FaultKind.{FaultKind}
-use Rattle.line_text.specs.declared.faults.FaultKind.TheVariants.{Extra}
+use Rattle.graph_core.specs.from_line_text.declared.faults.FaultKind.{FaultKind}
+use Rattle.graph_core.specs.from_line_text.declared.faults.FaultKind.TheVariants.{Extra}
 use Rattle.graph_core.proofs.Common.{Graph, IsCovered, IsMultigraph, HasPerfect, IsBicritical, equivalent_pair, has_perfect, has_perfect_found, has_perfect_says, is_bicritical, maximum_exists, missed_count}
 use Rattle.graph_core.specs.declared.verdict.Kind.{Kind}
 use Rattle.graph_core.specs.declared.verdict.Kind.TheVariants as kind
 use Rattle.separation_kit.proofs.SeparationFacts.{equivalent-none}
-use Rattle.leaf_kinds.specs.LeafKinds.{IsKind}
-use Rattle.tree_core.proofs.Common.{leaves, partitions-leaves}
-use Rattle.tree_core.specs.declared.tallies.Tally.{Tally}
-use Rattle.decomposer.specs.Common.{NamedPicks}
-use Rattle.decomposer.specs.declared.orders.NamedOrder.{NamedOrder}
+use Rattle.bench_top.specs.from_leaf_kinds.LeafKinds.{IsKind}
+use Rattle.tree_check.proofs.from_tree_core.Common.{leaves, partitions-leaves}
+use Rattle.tree_check.specs.from_tree_core.declared.tallies.Tally.{Tally}
+use Rattle.bench_tasks.specs.from_decomposer.Common.{NamedPicks}
+use Rattle.bench_tasks.specs.from_decomposer.declared.orders.NamedOrder.{NamedOrder}
 use Rattle.graph6_text.specs.Common.{outcome_of}
-use Rattle.mcg6_lines.proofs.ReadMultigraphs.{read-multigraph}
-use Rattle.mcg6_lines.specs.Elementary.{elementary_lines}
-use Rattle.mcg6_lines.specs.KindLines.{kind_line, standing_words}
-use Rattle.mcg6_lines.specs.LeafLines.{AreLeafLines, leaf_lines, line_front}
-use Rattle.mcg6_lines.specs.Selecting.{HasProperty, IsBicriticalWithEdge, IsSelected, LacksProperty}
-use Rattle.mcg6_lines.specs.Standings.{IsCounted, IsStanding}
-use Rattle.mcg6_lines.specs.Telling.{IsTold, file_text}
-use Rattle.mcg6_lines.specs.declared.query.Property.{Property}
-use Rattle.mcg6_lines.specs.declared.query.Property.TheVariants.{Covered, Uncovered as NotCovered, Perfect, Brick, Brace, Bicritical, Composite, Bricks, Braces}
-use Rattle.mcg6_lines.specs.declared.query.Query.{Query}
-use Rattle.mcg6_lines.specs.declared.query.Query.TheVariants.{Kinds, Leaves, Elementary, Graph as GraphFile, Select}
-use Rattle.mcg6_lines.specs.declared.standings.Standing.{Standing}
-use Rattle.mcg6_lines.specs.declared.standings.Standing.TheVariants.{Structured, Uncovered}
-use Rattle.mcg6_reader.specs.declared.place.LinePlace.{LinePlace}
+use Rattle.bench_top.proofs.from_mcg6_lines.ReadMultigraphs.{read-multigraph}
+use Rattle.bench_top.specs.from_mcg6_lines.Elementary.{elementary_lines}
+use Rattle.bench_top.specs.from_mcg6_lines.KindLines.{kind_line, standing_words}
+use Rattle.bench_top.specs.from_mcg6_lines.LeafLines.{AreLeafLines, leaf_lines, line_front}
+use Rattle.bench_top.specs.from_mcg6_lines.Selecting.{HasProperty, IsBicriticalWithEdge, IsSelected, LacksProperty}
+use Rattle.bench_top.specs.from_mcg6_lines.Standings.{IsCounted, IsStanding}
+use Rattle.bench_top.specs.from_mcg6_lines.Telling.{IsTold, file_text}
+use Rattle.bench_top.specs.from_mcg6_lines.declared.query.Property.{Property}
+use Rattle.bench_top.specs.from_mcg6_lines.declared.query.Property.TheVariants.{Covered, Uncovered as NotCovered, Perfect, Brick, Brace, Bicritical, Composite, Bricks, Braces}
+use Rattle.bench_top.specs.from_mcg6_lines.declared.query.Query.{Query}
+use Rattle.bench_top.specs.from_mcg6_lines.declared.query.Query.TheVariants.{Kinds, Leaves, Elementary, Graph as GraphFile, Select}
+use Rattle.bench_top.specs.from_mcg6_lines.declared.standings.Standing.{Standing}
+use Rattle.bench_top.specs.from_mcg6_lines.declared.standings.Standing.TheVariants.{Structured, Uncovered}
+use Rattle.mcg6_top.specs.from_mcg6_reader.declared.place.LinePlace.{LinePlace}
 use Rattle.mcg6_top.proofs.ListsExist.{list_outcome, settled_end}
 use Rattle.mcg6_top.specs.Common.{HasAnswer, HasListOutcome, IsBadLine, TellsLineOf, is_past_graph}
 use Rattle.mcg6_top.specs.declared.command.AtBadLine.{AtBadLine}

@@ -1,6 +1,6 @@
 -- Members of lists that are joined or filtered.
 -- Idea: by induction on the first list, with a case for its first item.
-use Rattle.counting.proofs.Common.{◌≡◌, ◌⊎◌, Bool, true, false, cond, List, [], ◌∷◌, ◌++◌, filter, refl, sym, ap, ◌∙◌, inl, inr, both_ways, IsIn}
+use Rattle.tree_check.proofs.from_counting.Common.{◌≡◌, ◌⊎◌, Bool, true, false, cond, List, [], ◌∷◌, ◌++◌, filter, refl, sym, ap, ◌∙◌, inl, inr, both_ways, IsIn}
 use Rattle.theorems.specs.TightCuts.{AreDistinct}
 
 pub in_left : {A : Type 0} (z : A) (xs ys : List A) → IsIn z xs → IsIn z (xs ++ ys)

@@ -1,10 +1,10 @@
 -- Whether a perfect matching leads out of a stage at two vertices alone is decided.
 -- Idea: for each two vertices the graph of the open edges has a perfect matching or none.
-use Rattle.counting.proofs.Common.{◌≡◌, ◌≢◌, ℕ, zero, suc, ◌⊎◌, arith, inl, inr, true, subst, both_ways, cases_Bool, cases_eq, rising_only, Within, mem, Set, none}
+use Rattle.tree_check.proofs.from_counting.Common.{◌≡◌, ◌≢◌, ℕ, zero, suc, ◌⊎◌, arith, inl, inr, true, subst, both_ways, cases_Bool, cases_eq, rising_only, Within, mem, Set, none}
 use Rattle.barrier_kit.proofs.Common.{perfect_or_not}
-use Rattle.ear_core.proofs.MarkedMatchings.{marked-listed, marked-perfect}
-use Rattle.ear_core.proofs.NextStages.{met-within}
-use Rattle.ear_core.specs.Common.{IsPerfectBy, LeadsAtTwo, is_open, by_rank, listed, is_met}
+use Rattle.ear_text.proofs.from_ear_core.MarkedMatchings.{marked-listed, marked-perfect}
+use Rattle.ear_text.proofs.from_ear_core.NextStages.{met-within}
+use Rattle.ear_text.specs.from_ear_core.Common.{IsPerfectBy, LeadsAtTwo, is_open, by_rank, listed, is_met}
 use Rattle.graph_core.proofs.Common.{Graph, IsGraph, size, with_ends}
 use Rattle.match_core.proofs.MatchingEdges.{marked-edges, marked_matching}
 use Rattle.match_core.specs.Common.{edges_of}

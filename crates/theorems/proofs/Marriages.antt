@@ -1,10 +1,10 @@
 -- The marriage theorem: the partners that Hall's condition gives, each with an edge, are a perfect
 -- matching of the two sets. Conversely a perfect matching matches a set on one side into its
 -- neighbours.
-use Rattle.counting.proofs.Common.{◌≡◌, ℕ, ◌≤◌, Bool, true, false, ◌==◌, ◌&&◌, ◌||◌, not, refl, ap, ◌∙◌, arith, eq-eqb, eqb-true, ◌↔◌, inl, inr, and_from, and_implied, and_parts, both_ways, not-true, or_cases, or_left, or_right, same_tests, some_congr, some_true, true_some, count_congr, count_mono, Within, count, some, Set, complement, meet, none, singleton, union}
+use Rattle.tree_check.proofs.from_counting.Common.{◌≡◌, ℕ, ◌≤◌, Bool, true, false, ◌==◌, ◌&&◌, ◌||◌, not, refl, ap, ◌∙◌, arith, eq-eqb, eqb-true, ◌↔◌, inl, inr, and_from, and_implied, and_parts, both_ways, not-true, or_cases, or_left, or_right, same_tests, some_congr, some_true, true_some, count_congr, count_mono, Within, count, some, Set, complement, meet, none, singleton, union}
 use Rattle.barrier_kit.proofs.Common.{glue_family, hall, hits, neighbours, perfect_congr, Picks}
 use Rattle.graph_core.proofs.Common.{adjacent-edge, Graph, HasPerfect, IsGraph, IsMultigraph, IsPerfect, IsSide, adjacent, has_ends, size}
-use Rattle.matching_digraph.proofs.Balance.{other_side, side_count}
+use Rattle.quick_kinds.proofs.from_matching_digraph.Balance.{other_side, side_count}
 use Rattle.quick_kinds.proofs.UnmatchedFours.{one_edge}
 use Rattle.theorems.proofs.BrickFacts.{turned_cut}
 use Rattle.theorems.proofs.Neighbourhoods.{near_count, near_side}

@@ -1,6 +1,6 @@
 -- Matchings inside a set of vertices: edges that meet each vertex of it once, and do not cross
 -- it, are a perfect matching of the graph that it induces.
-use Rattle.counting.proofs.Common.{◌≡◌, ℕ, suc, zero, ◌≤◌, true, false, refl, arith, ◌&&◌, inl, inr, not-false, not-true, Within, Set}
+use Rattle.tree_check.proofs.from_counting.Common.{◌≡◌, ℕ, suc, zero, ◌≤◌, true, false, refl, arith, ◌&&◌, inl, inr, not-false, not-true, Within, Set}
 use Rattle.graph_core.proofs.Common.{degree-inside, degree-inside_off, ends_le_degree, one_end, Graph, HasEnds, degree, in_cut, size}
 use Rattle.theorems.specs.Matchings.{MatchesWithin}
 

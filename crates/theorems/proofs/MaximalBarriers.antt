@@ -2,7 +2,7 @@
 -- a perfect matching, or the barrier grows by this vertex; and there is no even one, since the
 -- barrier with a vertex of it is a barrier: no odd component is lost, and the parity asks for one
 -- more.
-use Rattle.counting.proofs.Common.{◌≡◌, ℕ, ◌+◌, ◌≤◌, Bool, true, false, ◌==◌, ◌&&◌, ◌||◌, not, refl, sym, ap, ◌∙◌, arith, eq-eqb, eqb-true, suc, [], ◌∷◌, inl, inr, both_ways, cases_Bool, cases_eq, count_congr, count_singleton, false_from_ne_true, or_left, or_right, total_add, total_congr, total_le, Within, bit, count, is_odd, Set, complement, minus, none, singleton, union}
+use Rattle.tree_check.proofs.from_counting.Common.{◌≡◌, ℕ, ◌+◌, ◌≤◌, Bool, true, false, ◌==◌, ◌&&◌, ◌||◌, not, refl, sym, ap, ◌∙◌, arith, eq-eqb, eqb-true, suc, [], ◌∷◌, inl, inr, both_ways, cases_Bool, cases_eq, count_congr, count_singleton, false_from_ne_true, or_left, or_right, total_add, total_congr, total_le, Within, bit, count, is_odd, Set, complement, minus, none, singleton, union}
 use Rattle.barrier_kit.proofs.Common.{enlarge, even_order, few_odd_components, leader_of, odd_same, part_same, perfect_congr, perfect_or_not, same_parity}
 use Rattle.graph_core.proofs.Common.{adjacent_back, joined_on, joined_outside, joined_self, joined_walk, walk_joined, odd_component_count, Graph, HasPerfect, IsBarrier, IsGraph, IsPerfect, Joined, adjacent, is_least, joined}
 use Rattle.theorems.specs.Barriers.{IsMaximalBarrier}

@@ -1,13 +1,13 @@
 -- A move keeps the form of a tree: if the shores are rising lists below the greatest vertex, so
 -- are those of its result. Each new shore is written as a rising list, and each other one stays.
-use Rattle.counting.proofs.Common.{◌≡◌, ℕ, Bool, true, false, ◌&&◌, List, [], ◌∷◌, Option, Some, None, option_map, if◌then◌else◌, refl, subst, IsStrictlyIncreasing, none-some, same_Some, rising_list-rises, is_apart, is_subset, mem, union}
+use Rattle.tree_check.proofs.from_counting.Common.{◌≡◌, ℕ, Bool, true, false, ◌&&◌, List, [], ◌∷◌, Option, Some, None, option_map, if◌then◌else◌, refl, subst, IsStrictlyIncreasing, none-some, same_Some, rising_list-rises, is_apart, is_subset, mem, union}
 use Rattle.graph_core.proofs.Common.{complement_of}
 use Rattle.tree_check.proofs.MovesFit.{move-fits}
 use Rattle.tree_check.specs.Common.{HasShores}
-use Rattle.tree_core.proofs.Common.{PlainMove, rotate_at, switch_at, inner_rest, is_proper, kept_if_greatest_comes, kept_if_greatest_stays, last_step, list_if, merged_if_greatest_comes, merged_if_greatest_stays, minus_list, move_result, outer_rest, parent_path, result_at, rotate_result_at, switch_result_at, union_list, Shape, leaf, cut, Fits}
-use Rattle.tree_core.specs.declared.path.Side.{Side}
-use Rattle.tree_core.specs.declared.path.Side.TheVariants.{Kept, Merged}
-use Rattle.tree_text.specs.Common.{ShoresRise}
+use Rattle.tree_check.proofs.from_tree_core.Common.{PlainMove, rotate_at, switch_at, inner_rest, is_proper, kept_if_greatest_comes, kept_if_greatest_stays, last_step, list_if, merged_if_greatest_comes, merged_if_greatest_stays, minus_list, move_result, outer_rest, parent_path, result_at, rotate_result_at, switch_result_at, union_list, Shape, leaf, cut, Fits}
+use Rattle.tree_check.specs.from_tree_core.declared.path.Side.{Side}
+use Rattle.tree_check.specs.from_tree_core.declared.path.Side.TheVariants.{Kept, Merged}
+use Rattle.move_text.specs.from_tree_text.Common.{ShoresRise}
 
 rises : (n : ℕ) (x y : List ℕ) → IsStrictlyIncreasing (union_list n x y)
 rises n x y = (rising_list-rises n (union (mem x) (mem y))).rising

@@ -1,9 +1,9 @@
 -- A covered graph with a nontrivial tight cut has a nontrivial barrier cut or 2-separation cut. A
 -- bicritical one has a cut pair, one that is neither bicritical nor bipartite a class, and of a
 -- bipartite one each tight cut is a barrier cut.
-use Rattle.counting.proofs.Common.{ℕ, sym, ◌⊎◌, inl, inr, Set, complement}
+use Rattle.tree_check.proofs.from_counting.Common.{ℕ, sym, ◌⊎◌, inl, inr, Set, complement}
 use Rattle.barrier_kit.proofs.Common.{class_barrier, class_cut, no_sides, nontrivial-turned, tight-turned, BarrierCut}
-use Rattle.brick_kit.proofs.Bricks.{shore_pair}
+use Rattle.quick_kinds.proofs.from_brick_kit.Bricks.{shore_pair}
 use Rattle.theorems.proofs.Quotients.{bipartite-or}
 use Rattle.graph_core.proofs.Common.{nontrivial-same, tight-same, IsCovered, Graph, IsGraph, IsMultigraph, IsBarrier, IsBicritical, IsCutPair, IsNontrivial, IsTight}
 use Rattle.quick_kinds.proofs.QuickBricks.{critical_or_not}

@@ -1,13 +1,13 @@
 -- The names of a graph that a file gives differ, and there is one for each vertex. They do so from
 -- line to line: a further name has the form of one and is new, and at the end their number is that
 -- of the vertices.
-use Rattle.counting.proofs.Common.{◌≡◌, ℕ, ◌+◌, ◌≤◌, nat_lt, Bool, true, false, cond, List, [], ◌∷◌, length, Option, Some, None, Result, Ok, Err, refl, arith, ltb-true, codes, ForSome, result_map_both, not-false, none-some}
+use Rattle.tree_check.proofs.from_counting.Common.{◌≡◌, ℕ, ◌+◌, ◌≤◌, nat_lt, Bool, true, false, cond, List, [], ◌∷◌, length, Option, Some, None, Result, Ok, Err, refl, arith, ltb-true, codes, ForSome, result_map_both, not-false, none-some}
 use Rattle.graph_core.proofs.Common.{Graph, size}
-use Rattle.line_text.specs.declared.faults.FaultKind.{FaultKind}
-use Rattle.line_text.specs.declared.faults.FaultKind.TheVariants as kind
+use Rattle.graph_core.specs.from_line_text.declared.faults.FaultKind.{FaultKind}
+use Rattle.graph_core.specs.from_line_text.declared.faults.FaultKind.TheVariants as kind
 use Rattle.graph_text.proofs.NameLists.{AreNames-more}
 use Rattle.graph_text.specs.Common.{EitherSoFar, NamedGraph, either_header, either_version, end_behind, line_behind, named_edge_line, vertex_line, GraphSoFar, graph_end, graph_line, AreNames}
-use Rattle.line_text.specs.Common.{checked, finish, step, lines_of, go_on, reading_from, reading_of, SignificantLine, significant_lines_of}
+use Rattle.graph_core.specs.from_line_text.Common.{checked, finish, step, lines_of, go_on, reading_from, reading_of, SignificantLine, significant_lines_of}
 use Rattle.bench_top.proofs.ReadGraphs.{GoesOn}
 
 -- the names read so far differ, and there are not too many vertices

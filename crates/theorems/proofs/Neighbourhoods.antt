@@ -1,11 +1,11 @@
 -- A set on one side of a bipartite graph and its neighbours: each perfect matching has as many
 -- edges in the cut of both together as there are neighbours more; and a nontrivial tight shore,
 -- or the other one, is a set on a side with one vertex more of its neighbours' side.
-use Rattle.counting.proofs.Common.{◌≡◌, ℕ, suc, zero, ◌+◌, ◌≤◌, Bool, true, false, ◌&&◌, ◌||◌, not, refl, sym, ap, ◌∙◌, arith, and_from, and_parts, both_ways, false_from_ne_true, not-true, and_comm, count_congr, count_meet_union, count_split, some_true, true_some, total_none, Within, bit, count, Set, complement, meet, minus, none, union}
+use Rattle.tree_check.proofs.from_counting.Common.{◌≡◌, ℕ, suc, zero, ◌+◌, ◌≤◌, Bool, true, false, ◌&&◌, ◌||◌, not, refl, sym, ap, ◌∙◌, arith, and_from, and_parts, both_ways, false_from_ne_true, not-true, and_comm, count_congr, count_meet_union, count_split, some_true, true_some, total_none, Within, bit, count, Set, complement, meet, minus, none, union}
 use Rattle.barrier_kit.proofs.Common.{nontrivial-turned, tight-turned, cut_split, cut_matching}
 use Rattle.graph_core.proofs.Common.{IsSide, IsCovered, Graph, IsMultigraph, edges_in_cut, first_end, has_ends, second_end, size, IsPerfect, IsNontrivial, IsTight, adjacent, covered_perfect, adjacent-edge, adjacent_from, has_ends-back, has_ends-own}
-use Rattle.matching_digraph.proofs.Balance.{balance, equal_sides, leaves_left, leaves_right, none_right, other_side, side_count}
-use Rattle.matching_digraph.proofs.TightShores.{at_ends}
+use Rattle.quick_kinds.proofs.from_matching_digraph.Balance.{balance, equal_sides, leaves_left, leaves_right, none_right, other_side, side_count}
+use Rattle.quick_kinds.proofs.from_matching_digraph.TightShores.{at_ends}
 use Rattle.theorems.specs.Braces.{neighbourhood}
 
 -- a neighbour has an edge to a vertex of the set

@@ -1,26 +1,26 @@
 -- Each command whose files load has a report, and so each command has an outcome or names a file
 -- that is missing. What a file is read as gives what the report asks of it: a graph file a graph
 -- within the limits, a tree file shores that are sets, an ear file an edge to begin with.
-use Rattle.counting.proofs.Common.{◌≡◌, ◌⊎◌, ℕ, ◌≤◌, nat_lt, Bool, true, false, cond, List, length, Option, Some, None, Result, Ok, Err, refl, sym, ap, subst, inl, inr, Within}
-use Rattle.outside.specs.Common.{NamedFile, file_named, most_bytes}
-use Rattle.ear_core.specs.Common.{PlainEars}
+use Rattle.tree_check.proofs.from_counting.Common.{◌≡◌, ◌⊎◌, ℕ, ◌≤◌, nat_lt, Bool, true, false, cond, List, length, Option, Some, None, Result, Ok, Err, refl, sym, ap, subst, inl, inr, Within}
+use Rattle.bench_top.specs.from_outside.Common.{NamedFile, file_named, most_bytes}
+use Rattle.ear_text.specs.from_ear_core.Common.{PlainEars}
 use Rattle.ear_text.proofs.EarsRead.{list-read}
 use Rattle.ear_text.specs.EarFormat.{ear_format}
 use Rattle.graph6_text.specs.Common.{outcome_of}
 use Rattle.graph_core.proofs.Common.{Graph, IsMultigraph, size}
-use Rattle.line_text.specs.declared.faults.FaultKind.{FaultKind}
+use Rattle.graph_core.specs.from_line_text.declared.faults.FaultKind.{FaultKind}
 use Rattle.graph_text.specs.Common.{NamedGraph, either_version}
-use Rattle.line_text.proofs.ExactlyOne.{Stands-from_reading}
-use Rattle.line_text.specs.Common.{reading_of}
+use Rattle.graph_core.proofs.from_line_text.ExactlyOne.{Stands-from_reading}
+use Rattle.graph_core.specs.from_line_text.Common.{reading_of}
 use Rattle.report_text.specs.Common.{bad_input_text}
 use Rattle.tree_check.specs.Common.{HasShores}
-use Rattle.tree_core.proofs.Common.{PlainMove, Shape}
-use Rattle.tree_text.proofs.TreeRead.{tree_read}
-use Rattle.tree_text.specs.Common.{tree_format}
-use Rattle.decomposer.specs.Common.{NamedPicks, ScriptPicks}
-use Rattle.bench_outcomes.specs.Common.{CommandGives, LoadedGives, Outcome, ResultOf}
-use Rattle.bench_outcomes.specs.declared.status.Status.{Status}
-use Rattle.bench_outcomes.specs.declared.status.Status.TheVariants.{BadInput}
+use Rattle.tree_check.proofs.from_tree_core.Common.{PlainMove, Shape}
+use Rattle.move_text.proofs.from_tree_text.TreeRead.{tree_read}
+use Rattle.move_text.specs.from_tree_text.Common.{tree_format}
+use Rattle.bench_tasks.specs.from_decomposer.Common.{NamedPicks, ScriptPicks}
+use Rattle.bench_top.specs.from_bench_outcomes.Common.{CommandGives, LoadedGives, Outcome, ResultOf}
+use Rattle.bench_top.specs.from_bench_outcomes.declared.status.Status.{Status}
+use Rattle.bench_top.specs.from_bench_outcomes.declared.status.Status.TheVariants.{BadInput}
 use Rattle.bench_tasks.specs.Common.{Command, OnGraph, OnSimpleGraph, OnTree, OnPicks, OnEars, OnMoves, OnTrees, OnNumbers, command_of, Loaded, All, Bad, Absent, and_then, ear_file, ears_given, file_read, from_reading, graph6_file, graph_file, loaded, loaded_as, move_file, moves_given, on_ears, on_moves, on_picks, on_tree, on_trees, pick_file, picks_given, tree_file, tree_given, trees_given, Task}
 use Rattle.bench_tasks.specs.Tasks as task
 use Rattle.bench_tasks.specs.declared.verbs.GraphVerb.{GraphVerb}

@@ -3,14 +3,14 @@
 -- both partitions below it have fewer blocks.
 use Rattle.std.proofs.Common.{[], ◌≡◌, ℕ, zero, suc, ◌+◌, ◌<◌, ◌≤◌, List, ◌∷◌, length, get_or, refl, ap, arith}
 use Rattle.std.proofs.lemmas.Option.{slice_get-get_or}
-use Rattle.decomposer.proofs.Picking.{cut-from_candidate}
-use Rattle.decomposer.specs.Common.{NamedPicks, IsPicked, IsPickedAt}
-use Rattle.decomposer.specs.declared.orders.NamedOrder.TheVariants.{First}
+use Rattle.bench_tasks.proofs.from_decomposer.Picking.{cut-from_candidate}
+use Rattle.bench_tasks.specs.from_decomposer.Common.{NamedPicks, IsPicked, IsPickedAt}
+use Rattle.bench_tasks.specs.from_decomposer.declared.orders.NamedOrder.TheVariants.{First}
 use Rattle.graph_core.proofs.Common.{singles-partition, IsCovered, Graph, IsGraph, IsPartition, singles, quotient}
 use Rattle.theorems.specs.Derivations.{ChoosesPlaces, PicksChosen}
-use Rattle.tight_cuts.proofs.PartitionCandidates.{found-at, none-at}
-use Rattle.tight_cuts.specs.Common.{Candidate, candidates_at}
-use Rattle.tree_core.proofs.Common.{blocks-below, kept-covers, kept-length, kept-partition, merged-covers, merged-length, merged-partition, root-covered, shore-cut, IsCutAt, IsDerivation, IsDerivationAt, IsLeafAt, IsTightShore, kept_at, merged_at, Shape, cut, cut_count, leaf}
+use Rattle.tree_check.proofs.from_tight_cuts.PartitionCandidates.{found-at, none-at}
+use Rattle.tree_check.specs.from_tight_cuts.Common.{Candidate, candidates_at}
+use Rattle.tree_check.proofs.from_tree_core.Common.{blocks-below, kept-covers, kept-length, kept-partition, merged-covers, merged-length, merged-partition, root-covered, shore-cut, IsCutAt, IsDerivation, IsDerivationAt, IsLeafAt, IsTightShore, kept_at, merged_at, Shape, cut, cut_count, leaf}
 
 -- of each nonempty list, whatever the number, the rule picks a place of the list
 abbrev pub PicksSome : (List Candidate → ℕ → ℕ → Type 0) → Type 0

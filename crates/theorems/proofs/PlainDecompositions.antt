@@ -1,13 +1,13 @@
 -- A derivation is a tree of nontrivial tight cuts in words that do not name the contracted graph,
 -- and a pairing of leaves is a bijection. An odd number of blocks follows from a perfect
 -- matching, which has exactly one edge in the cut.
-use Rattle.counting.proofs.Common.{◌≡◌, ◌&&◌, ℕ, suc, ◌+◌, true, not, ◌==◌, List, length, refl, sym, ap, ◌∙◌, arith, eq-eqb, eqb-true, only_one, count_member, complement_odd, odd-double, Within, count, is_odd, mem, Set, complement, none}
+use Rattle.tree_check.proofs.from_counting.Common.{◌≡◌, ◌&&◌, ℕ, suc, ◌+◌, true, not, ◌==◌, List, length, refl, sym, ap, ◌∙◌, arith, eq-eqb, eqb-true, only_one, count_member, complement_odd, odd-double, Within, count, is_odd, mem, Set, complement, none}
 use Rattle.barrier_kit.proofs.Common.{even_order}
 use Rattle.definition_laws.proofs.BlockWords.{tight-words, words-tight}
 use Rattle.graph_core.proofs.Common.{contracted-graph, block_count_rest, covered_perfect, parity, edges-in-cut-at, Graph, inside, size, contracted, block_count, blocks_in}
-use Rattle.tree_core.proofs.Common.{IsCutAt, IsDerivationAt, IsLeafAt, kept_at, merged_at, PlainLeafMap, leaf_at, map_at, Shape, cut, leaf}
-use Rattle.move_laws.proofs.BigShores.{Stage, cut_big}
-use Rattle.move_laws.specs.Common.{IsPairing, image}
+use Rattle.tree_check.proofs.from_tree_core.Common.{IsCutAt, IsDerivationAt, IsLeafAt, kept_at, merged_at, PlainLeafMap, leaf_at, map_at, Shape, cut, leaf}
+use Rattle.tree_check.proofs.from_move_laws.BigShores.{Stage, cut_big}
+use Rattle.tree_check.specs.from_move_laws.Common.{IsPairing, image}
 use Rattle.theorems.proofs.NestedCuts.{CutAt, kept_stage, merged_stage}
 use Rattle.theorems.specs.TightCuts.{IsBijection, IsTightCutAt, IsTightCutTreeAt, PairsLeaves}
 

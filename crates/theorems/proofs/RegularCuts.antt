@@ -1,12 +1,12 @@
 -- A tight cut of an r-graph has r edges. A perfect matching is heaviest for the weight "n, and one
 -- more in the cut", so a cover weighs as much; its inequality is summed over all edges. So there is
 -- no nontrivial tight cut if each nontrivial odd set has more than r edges in its cut.
-use Rattle.counting.proofs.Common.{◌≡◌, ℕ, suc, zero, ◌+◌, ◌*◌, ◌/◌, ◌≤◌, true, false, List, [], ◌∷◌, refl, sym, ap, ◌∙◌, arith, All, inl, inr, mul-add, mul-le-mul_left, mul_left_comm, All-head, All-tail, cases_lt, complement_odd, order_even, true≢false, bit, count, is_odd, total, Set, complement, everything, none}
-use Rattle.brick_kit.proofs.CoverBound.{Dual, cover_sum}
-use Rattle.brick_kit.proofs.CutWeights.{cut_weight, perfect_heaviest}
-use Rattle.brick_kit.proofs.Duality.{dual}
-use Rattle.brick_kit.proofs.EdgeSums.{weight_le}
-use Rattle.brick_kit.specs.Weights.{cover_value, covering, sum_over, weight_of}
+use Rattle.tree_check.proofs.from_counting.Common.{◌≡◌, ℕ, suc, zero, ◌+◌, ◌*◌, ◌/◌, ◌≤◌, true, false, List, [], ◌∷◌, refl, sym, ap, ◌∙◌, arith, All, inl, inr, mul-add, mul-le-mul_left, mul_left_comm, All-head, All-tail, cases_lt, complement_odd, order_even, true≢false, bit, count, is_odd, total, Set, complement, everything, none}
+use Rattle.quick_kinds.proofs.from_brick_kit.CoverBound.{Dual, cover_sum}
+use Rattle.quick_kinds.proofs.from_brick_kit.CutWeights.{cut_weight, perfect_heaviest}
+use Rattle.quick_kinds.proofs.from_brick_kit.Duality.{dual}
+use Rattle.quick_kinds.proofs.from_brick_kit.EdgeSums.{weight_le}
+use Rattle.quick_kinds.specs.from_brick_kit.Weights.{cover_value, covering, sum_over, weight_of}
 use Rattle.graph_core.proofs.Common.{Graph, HasOnlyTrivialTightCuts, IsGraph, IsMultigraph, IsNontrivial, degree, edges_in_cut, in_cut, size, IsPerfect, IsTight}
 use Rattle.theorems.proofs.BrickFacts.{turned_cut}
 use Rattle.theorems.proofs.RegularDegrees.{all_edges, each_degree, few_inside, inner_size, perfect_size, two_inside, weighted_degrees}

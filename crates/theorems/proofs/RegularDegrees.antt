@@ -1,7 +1,7 @@
 -- In an r-regular graph r times the vertices of a set are the edges in its cut and twice those
 -- inside. So if each odd set has at least r edges in its cut, the order is even unless there is no
 -- edge, and an odd set of 2h + 1 vertices has at most r h edges inside.
-use Rattle.counting.proofs.Common.{◌≡◌, ℕ, zero, suc, ◌+◌, ◌*◌, ◌/◌, ◌≤◌, true, false, ◌&&◌, refl, sym, ap, ◌∙◌, arith, eqb-true, inl, inr, ◌%◌, mul-add, mul_comm, and_parts, cases_Bool, count_complement, count_member, is_odd_remainder, member_count, total_congr, total_mul, total_none, two_members, Within, bit, count, is_odd, total, Set, complement, everything, none}
+use Rattle.tree_check.proofs.from_counting.Common.{◌≡◌, ℕ, zero, suc, ◌+◌, ◌*◌, ◌/◌, ◌≤◌, true, false, ◌&&◌, refl, sym, ap, ◌∙◌, arith, eqb-true, inl, inr, ◌%◌, mul-add, mul_comm, and_parts, cases_Bool, count_complement, count_member, is_odd_remainder, member_count, total_congr, total_mul, total_none, two_members, Within, bit, count, is_odd, total, Set, complement, everything, none}
 use Rattle.graph_core.proofs.Common.{degrees, first_end, missed_edges, perfect_matching, perfect_misses, second_end, Graph, IsGraph, IsMultigraph, IsPerfect, degree, inside, size}
 use Rattle.theorems.specs.RegularGraphs.{HasWideOddCuts, IsRegular, cut_size}
 

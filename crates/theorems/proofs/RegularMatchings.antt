@@ -1,7 +1,7 @@
 -- In an r-graph each edge is in a perfect matching. Else the law of Tutte and Berge leaves, beside
 -- the ends of an edge, a set T with as many odd components; r edges leave each of them for T,
 -- which has an edge inside.
-use Rattle.counting.proofs.Common.{◌≡◌, ◌≢◌, ℕ, suc, zero, ◌+◌, ◌*◌, ◌≤◌, Bool, true, false, ◌==◌, ◌&&◌, ◌||◌, not, refl, sym, ap, ◌∙◌, arith, eq-eqb, inl, inr, and_parts, cases_eq, true≢false, or_left, or_right, count_congr, member_count, count_mono, total_le, total_mul, Within, bit, count, is_odd, Set, everything, none, union}
+use Rattle.tree_check.proofs.from_counting.Common.{◌≡◌, ◌≢◌, ℕ, suc, zero, ◌+◌, ◌*◌, ◌≤◌, Bool, true, false, ◌==◌, ◌&&◌, ◌||◌, not, refl, sym, ap, ◌∙◌, arith, eq-eqb, inl, inr, and_parts, cases_eq, true≢false, or_left, or_right, count_congr, member_count, count_mono, total_le, total_mul, Within, bit, count, is_odd, Set, everything, none, union}
 use Rattle.std.proofs.Math.Nat.{le_of_mul-le-mul_left, mul-le-mul_left}
 use Rattle.barrier_kit.proofs.Common.{covers, covers_out, covers_step, cut_family, two_less, same_parity}
 use Rattle.graph_core.proofs.Common.{none_missed-perfect, is_least, odd_component_count, IsConnected, IsCovered, Graph, IsGraph, IsMultigraph, edges_in_cut, first_end, in_cut, inside, second_end, size, Allowed, HasPerfect, missed_count, joined}

@@ -1,10 +1,10 @@
 -- A bipartite r-regular graph is an r-graph, and in it an odd set with r edges in its cut is
 -- tight. With P and Q the two parts of a set, r|P| + R = r|Q| + L, where L and R count the edges
 -- of the cut that leave at P and at Q.
-use Rattle.counting.proofs.Common.{◌≡◌, ◌≢◌, ℕ, suc, zero, ◌+◌, ◌*◌, ◌-◌, ◌≤◌, ◌<◌, Bool, true, false, ◌&&◌, ◌||◌, not, refl, sym, ap, ◌∙◌, arith, ◌↔◌, inl, inr, and_parts, cases_order, complement_odd, count_complement, count_mono, count_split, odd-double, total_add, total_congr, total_none, true≢false, Within, bit, count, is_odd, Set, complement, everything, meet, minus}
+use Rattle.tree_check.proofs.from_counting.Common.{◌≡◌, ◌≢◌, ℕ, suc, zero, ◌+◌, ◌*◌, ◌-◌, ◌≤◌, ◌<◌, Bool, true, false, ◌&&◌, ◌||◌, not, refl, sym, ap, ◌∙◌, arith, ◌↔◌, inl, inr, and_parts, cases_order, complement_odd, count_complement, count_mono, count_split, odd-double, total_add, total_congr, total_none, true≢false, Within, bit, count, is_odd, Set, complement, everything, meet, minus}
 use Rattle.std.proofs.Math.Nat.{le-mul_of_pos_right, le_of_mul-le-mul_left, mul-add}
 use Rattle.graph_core.proofs.Common.{IsSide, Graph, IsMultigraph, edges_in_cut, first_end, in_cut, second_end, size, CutIsTight, HasOnlyTrivialTightCuts, IsNontrivial, IsTight}
-use Rattle.matching_digraph.proofs.Balance.{balance, leaves_left, leaves_right}
+use Rattle.quick_kinds.proofs.from_matching_digraph.Balance.{balance, leaves_left, leaves_right}
 use Rattle.theorems.proofs.RegularCuts.{tight_size}
 use Rattle.theorems.proofs.RegularDegrees.{each_degree, inner_size}
 use Rattle.theorems.specs.RegularGraphs.{HasWideOddCuts, IsRegular, cut_size}

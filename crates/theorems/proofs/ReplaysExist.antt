@@ -1,27 +1,27 @@
 -- For every tree and every list of moves there is a report of `replay`, and for every two trees
 -- one of `script`. The moves are made one after another, up to the first without a result or with
 -- a result that is refused; the sets of a proper Switch are blocks, and so its text is read again.
-use Rattle.counting.proofs.Common.{◌≡◌, ◌⊎◌, ◌+◌, ℕ, ◌<◌, ◌^◌, List, [], ◌∷◌, length, Option, Some, None, option_map, refl, arith, inl, inr, none-some, AllByRecursion}
+use Rattle.tree_check.proofs.from_counting.Common.{◌≡◌, ◌⊎◌, ◌+◌, ℕ, ◌<◌, ◌^◌, List, [], ◌∷◌, length, Option, Some, None, option_map, refl, arith, inl, inr, none-some, AllByRecursion}
 use Rattle.graph_core.proofs.Common.{Graph, IsGraph, IsMultigraph, singles, IsWithinLimits}
-use Rattle.line_text.specs.Common.{Stands}
-use Rattle.move_laws.proofs.Rising.{rising-derivation_at}
-use Rattle.move_laws.proofs.SingleVertices.{singles_stage}
-use Rattle.move_laws.proofs.Uniqueness.{compare_law, script_through}
-use Rattle.move_laws.specs.Common.{IsProperScript}
+use Rattle.graph_core.specs.from_line_text.Common.{Stands}
+use Rattle.tree_check.proofs.from_move_laws.Rising.{rising-derivation_at}
+use Rattle.tree_check.proofs.from_move_laws.SingleVertices.{singles_stage}
+use Rattle.tree_check.proofs.from_move_laws.Uniqueness.{compare_law, script_through}
+use Rattle.tree_check.specs.from_move_laws.Common.{IsProperScript}
 use Rattle.move_text.proofs.MovesReadBack.{Stands-moves_text}
 use Rattle.move_text.specs.Common.{move_format, SetsRise, moves_text}
-use Rattle.tree_core.proofs.Common.{few-nodes, leaf_count-cuts, node_count-cuts, IsDerivation, kept_at, merged_at, BlocksAt, IsProper, PlainMove, TurnsThrough, move_result, result_at, rotate_at, switch_at, switch_result_at, Shape, cut, leaf, leaf_count}
+use Rattle.tree_check.proofs.from_tree_core.Common.{few-nodes, leaf_count-cuts, node_count-cuts, IsDerivation, kept_at, merged_at, BlocksAt, IsProper, PlainMove, TurnsThrough, move_result, result_at, rotate_at, switch_at, switch_result_at, Shape, cut, leaf, leaf_count}
 use Rattle.report_text.specs.Common.{refused_move_text, replayed_text, script_report_text, stuck_text}
 use Rattle.tree_check.proofs.FirstRefusals.{derived-or_refused}
 use Rattle.tree_check.specs.Common.{HasShores, Why, why_number, IsRefusedMoveAt, IsStuckAt}
-use Rattle.tree_core.specs.declared.path.Side.{Side}
-use Rattle.tree_core.specs.declared.path.Side.TheVariants.{Kept, Merged}
-use Rattle.tree_text.specs.Common.{tree_text}
-use Rattle.bench_outcomes.specs.Common.{shown_of, IsScript, ScriptGives, Scripted, MovesGive, ReplayGives}
-use Rattle.bench_outcomes.specs.declared.status.Status.{Status}
-use Rattle.bench_outcomes.specs.declared.status.Status.TheVariants.{Done, Negative}
-use Rattle.bench_reports.proofs.ScriptMoves.{few-moves, script-paths, script-sets}
-use Rattle.bench_reports.proofs.ScriptTexts.{scripted}
+use Rattle.tree_check.specs.from_tree_core.declared.path.Side.{Side}
+use Rattle.tree_check.specs.from_tree_core.declared.path.Side.TheVariants.{Kept, Merged}
+use Rattle.move_text.specs.from_tree_text.Common.{tree_text}
+use Rattle.bench_top.specs.from_bench_outcomes.Common.{shown_of, IsScript, ScriptGives, Scripted, MovesGive, ReplayGives}
+use Rattle.bench_top.specs.from_bench_outcomes.declared.status.Status.{Status}
+use Rattle.bench_top.specs.from_bench_outcomes.declared.status.Status.TheVariants.{Done, Negative}
+use Rattle.bench_top.proofs.from_bench_reports.ScriptMoves.{few-moves, script-paths, script-sets}
+use Rattle.bench_top.proofs.from_bench_reports.ScriptTexts.{scripted}
 use Rattle.theorems.proofs.MovedShores.{moved-shores}
 use Rattle.theorems.proofs.ReportsExist.{covered_or_told, derived_or_refused_pair, refused_tree}
 

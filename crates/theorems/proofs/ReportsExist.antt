@@ -1,27 +1,27 @@
 -- For every two trees, every tree and every list of ears there is a report: a refusal is found
 -- if the rules are not kept, and if they are, the leaves have kinds and a script leads from
 -- the first derivation to the second.
-use Rattle.counting.proofs.Common.{◌≡◌, ◌⊎◌, ℕ, List, length, refl, subst, sym, inl, inr, Within}
+use Rattle.tree_check.proofs.from_counting.Common.{◌≡◌, ◌⊎◌, ℕ, List, length, refl, subst, sym, inl, inr, Within}
 use Rattle.definition_laws.proofs.Reasons.{covered_or_reason}
 use Rattle.graph_core.proofs.Common.{reason-uncovered, IsCovered, IsReason, Reason, Small, Parted, Unmatched, Unallowed, Graph, IsGraph, IsMultigraph, size, singles, reason_of}
 use Rattle.graph_core.specs.declared.verdict.Reason.{Reason as ToldReason}
 use Rattle.graph_core.specs.declared.verdict.Reason.TheVariants as told
 use Rattle.graph_core.specs.declared.verdict.Verdict.TheVariants.{NotCovered}
-use Rattle.ear_core.specs.Common.{PlainEars}
-use Rattle.move_laws.proofs.Rising.{rising-derivation_at}
-use Rattle.move_laws.proofs.ScriptPairs.{script_pairs}
-use Rattle.move_laws.proofs.SingleVertices.{singles_stage}
-use Rattle.move_laws.proofs.Uniqueness.{compare_law, script_through}
+use Rattle.ear_text.specs.from_ear_core.Common.{PlainEars}
+use Rattle.tree_check.proofs.from_move_laws.Rising.{rising-derivation_at}
+use Rattle.tree_check.proofs.from_move_laws.ScriptPairs.{script_pairs}
+use Rattle.tree_check.proofs.from_move_laws.SingleVertices.{singles_stage}
+use Rattle.tree_check.proofs.from_move_laws.Uniqueness.{compare_law, script_through}
 use Rattle.tree_check.proofs.FirstRefusals.{derived-or_refused}
 use Rattle.tree_check.specs.Common.{HasShores, IsRefused, Why, why_number}
-use Rattle.tree_core.proofs.Common.{partitions-leaves, IsDerivation, script_maps, leaves, Shape}
+use Rattle.tree_check.proofs.from_tree_core.Common.{partitions-leaves, IsDerivation, script_maps, leaves, Shape}
 use Rattle.report_text.specs.Common.{pairing_text, ear_judgement_text, judgement_text, verdict_text}
 use Rattle.report_text.specs.declared.ear_judgements.EarLine.TheVariants as ear_line
 use Rattle.report_text.specs.declared.judgements.TreeLine.TheVariants as line
-use Rattle.bench_outcomes.specs.Common.{CheckGives, RefusedTree, shown_of, CompareGives, Compared, RefusesPair, map_lines_of, EarCheckGives, double_count, named_edge, single_count, Uncovered}
-use Rattle.bench_outcomes.specs.EarChecks as ear
-use Rattle.bench_outcomes.specs.declared.status.Status.{Status}
-use Rattle.bench_outcomes.specs.declared.status.Status.TheVariants.{Done, Negative}
+use Rattle.bench_top.specs.from_bench_outcomes.Common.{CheckGives, RefusedTree, shown_of, CompareGives, Compared, RefusesPair, map_lines_of, EarCheckGives, double_count, named_edge, single_count, Uncovered}
+use Rattle.bench_top.specs.from_bench_outcomes.EarChecks as ear
+use Rattle.bench_top.specs.from_bench_outcomes.declared.status.Status.{Status}
+use Rattle.bench_top.specs.from_bench_outcomes.declared.status.Status.TheVariants.{Done, Negative}
 use Rattle.theorems.proofs.EarRefusals.{ears_or_refusal}
 use Rattle.theorems.proofs.LeafKindLists.{tally-exists}
 

@@ -1,9 +1,9 @@
 -- Lovász's uniqueness theorem: the pairing of the leaves of two tight cut decompositions, said of
 -- their quotients, and what it counts.
-use Rattle.counting.proofs.Common.{◌≡◌, ℕ, ◌-◌, Bool, ◌==◌, ◌&&◌, sym, ap, ap₂, ◌∙◌, arith, List, [], length, count_by, Within}
+use Rattle.tree_check.proofs.from_counting.Common.{◌≡◌, ℕ, ◌-◌, Bool, ◌==◌, ◌&&◌, sym, ap, ap₂, ◌∙◌, arith, List, [], length, count_by, Within}
 use Rattle.graph_core.proofs.Common.{quotient_graph, Graph, IsGraph, quotient}
-use Rattle.move_laws.proofs.Uniqueness.{pairing_law}
-use Rattle.tree_core.proofs.Common.{leaf_count-cuts, length-leaves_at, partitions-leaves, IsDerivation, cut_count, leaf_at, leaves, Shape}
+use Rattle.tree_check.proofs.from_move_laws.Uniqueness.{pairing_law}
+use Rattle.tree_check.proofs.from_tree_core.Common.{leaf_count-cuts, length-leaves_at, partitions-leaves, IsDerivation, cut_count, leaf_at, leaves, Shape}
 use Rattle.theorems.proofs.PlainDecompositions.{pairing-words}
 use Rattle.theorems.proofs.SameGraphs.{count_along, count_places, same-isomorphism, same_length, same_sides}
 use Rattle.theorems.specs.TightCuts.{IsBijection, IsIsomorphism, PairsLeaves, RespectsIsomorphism, is_two_sided}

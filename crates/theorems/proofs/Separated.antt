@@ -1,9 +1,9 @@
 -- Pairs of vertices that tight sets separate: two vertices are in no pair of a and b if they
 -- differ from both.
-use Rattle.counting.proofs.Common.{◌≡◌, ◌≢◌, ◌↔◌, ℕ, true, false, ◌==◌, eq-eqb, ne_eqb, sym, both_ways, or_from, or_left, or_right, Within, pair_set}
+use Rattle.tree_check.proofs.from_counting.Common.{◌≡◌, ◌≢◌, ◌↔◌, ℕ, true, false, ◌==◌, eq-eqb, ne_eqb, sym, both_ways, or_from, or_left, or_right, Within, pair_set}
 use Rattle.graph_core.proofs.Common.{Graph, IsGraph}
-use Rattle.tight_cuts.proofs.LeastShores.{separated_found, separated_says}
-use Rattle.tight_cuts.specs.Common.{is_separated}
+use Rattle.tree_check.proofs.from_tight_cuts.LeastShores.{separated_found, separated_says}
+use Rattle.tree_check.specs.from_tight_cuts.Common.{is_separated}
 use Rattle.theorems.specs.CutWords.{IsSeparated}
 
 -- v is neither a nor b

@@ -1,10 +1,10 @@
 -- A cut is separating if and only if each edge is in a perfect matching with exactly one edge in
 -- it. An edge of a shore is in a perfect matching of the contraction that keeps it, whose cut edge
 -- is in one of the other contraction; both together are one of the graph.
-use Rattle.counting.proofs.Common.{◌≡◌, ◌≢◌, ℕ, suc, ◌+◌, Bool, true, false, ◌&&◌, ◌||◌, not, refl, sym, ap, ◌∙◌, arith, List, subst, ◌↔◌, inl, inr, and_from, and_parts, cases_Bool, cases_lt, count_member, count_zero, member_count, not-true, odd-double, odd_pos, mem-within, or_left, or_right, true≢false, Within, IsRisingIn, count, is_odd, mem, Set, complement, meet, minus, none}
+use Rattle.tree_check.proofs.from_counting.Common.{◌≡◌, ◌≢◌, ℕ, suc, ◌+◌, Bool, true, false, ◌&&◌, ◌||◌, not, refl, sym, ap, ◌∙◌, arith, List, subst, ◌↔◌, inl, inr, and_from, and_parts, cases_Bool, cases_lt, count_member, count_zero, member_count, not-true, odd-double, odd_pos, mem-within, or_left, or_right, true≢false, Within, IsRisingIn, count, is_odd, mem, Set, complement, meet, minus, none}
 use Rattle.barrier_kit.proofs.Common.{crosses_apart}
 use Rattle.graph_core.proofs.Common.{complement_of-rises, contracted-singles, mem-complement_of, merged_merges, merges, carried, parity, parted, singles-partition, tight_from_cut, union-singles, blocks-singles, Graph, IsCovered, IsConnected, IsGraph, IsPerfect, IsSide, IsTight, Merges, blocks_in, complement_of, contracted, degree, edges_in_cut, first_end, in_cut, inside, merged, second_end, singles, size}
-use Rattle.matching_digraph.proofs.Balance.{balance, leaves_left, leaves_right}
+use Rattle.quick_kinds.proofs.from_matching_digraph.Balance.{balance, leaves_left, leaves_right}
 use Rattle.theorems.proofs.BrickFacts.{turned_cut}
 use Rattle.theorems.proofs.ContractedMatchings.{OneSide, allowed_by, covered_by_met}
 use Rattle.theorems.proofs.JoinedMatchings.{both, both_cut, both_perfect}

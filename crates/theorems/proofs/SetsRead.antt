@@ -2,16 +2,16 @@
 -- eight lines of the report are written words, so they are cut and read as they were meant, and the
 -- words in front differ.
 use Rattle.std.proofs.Common.{◌≡◌, ℕ, ◌<◌, ◌≤◌, ◌^◌, ◌==◌, Bool, true, false, cond, List, [], ◌∷◌, ◌++◌, map, drop, Option, Some, None, refl, sym, ap, ◌∙◌, arith, append_assoc, append-nil, eq-eqb, codes, decimal}
-use Rattle.counting.proofs.Common.{AllByRecursion, list_all, and_from, count_le, mem-within, or_left, or_right, Lists, mem, none}
+use Rattle.tree_check.proofs.from_counting.Common.{AllByRecursion, list_all, and_from, count_le, mem-within, or_left, or_right, Lists, mem, none}
 use Rattle.graph_core.proofs.Common.{component_count, missed_count, Graph, InA, InC, InD, size}
-use Rattle.line_text.proofs.Decimals.{is_word-decimal, number-decimal, value-decimal}
-use Rattle.line_text.proofs.ReadBack.{is_closed-unlines, lines_of-append, lines_of-written, words_of-unwords}
-use Rattle.line_text.proofs.WrittenLines.{spaced, unwords-spaced, written-append}
-use Rattle.line_text.specs.Common.{AreWords, begin_with, is_number, is_word, lines_of, numbers_of, unwords, value_of, written}
+use Rattle.graph_core.proofs.from_line_text.Decimals.{is_word-decimal, number-decimal, value-decimal}
+use Rattle.graph_core.proofs.from_line_text.ReadBack.{is_closed-unlines, lines_of-append, lines_of-written, words_of-unwords}
+use Rattle.graph_core.proofs.from_line_text.WrittenLines.{spaced, unwords-spaced, written-append}
+use Rattle.graph_core.specs.from_line_text.Common.{AreWords, begin_with, is_number, is_word, lines_of, numbers_of, unwords, value_of, written}
 use Rattle.report_text.specs.Common.{analysis_text, bipartite_line, components_line, count_line, deficiency_line, size_line, graph_lines, list_line, matching_line, numbers_text, numbers_told, verdict_lines, with_names_text, with_structure, with_three_sets}
 use Rattle.report_text.specs.declared.analyses.AnalysisLines.{AnalysisLines}
 use Rattle.report_text.specs.declared.structures.Structure.{Structure}
-use Rattle.bench_outcomes.specs.Common.{with_given_names, IsAnalysis}
+use Rattle.bench_top.specs.from_bench_outcomes.Common.{with_given_names, IsAnalysis}
 use Rattle.bench_top.proofs.ReadGraphs.{IsRead}
 use Rattle.theorems.specs.Outcomes.{ListsSet, words_behind}
 

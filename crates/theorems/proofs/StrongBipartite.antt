@@ -3,11 +3,11 @@
 -- matching or neither; what it lacks of the side has no neighbours but those that it lacks, so
 -- surplus leaves nothing. Conversely a walk from the side into a part of it has to take an edge of
 -- the matching into the part with its neighbours, so there is a neighbour more.
-use Rattle.counting.proofs.Common.{◌≡◌, ℕ, ◌≤◌, Bool, true, false, cond, ◌&&◌, ◌||◌, not, refl, ap, ◌∙◌, arith, ◌↔◌, inl, inr, List, [], ◌∷◌, and_from, and_parts, both_ways, but_from, but_not, cases_Bool, cases_lt, count_congr, count_member, count_mono, count_split, count_zero, false_from_ne_true, member_count, not-true, or_cases, or_left, or_right, same_tests, Within, count, Set, complement, meet, minus, none, union}
+use Rattle.tree_check.proofs.from_counting.Common.{◌≡◌, ℕ, ◌≤◌, Bool, true, false, cond, ◌&&◌, ◌||◌, not, refl, ap, ◌∙◌, arith, ◌↔◌, inl, inr, List, [], ◌∷◌, and_from, and_parts, both_ways, but_from, but_not, cases_Bool, cases_lt, count_congr, count_member, count_mono, count_split, count_zero, false_from_ne_true, member_count, not-true, or_cases, or_left, or_right, same_tests, Within, count, Set, complement, meet, minus, none, union}
 use Rattle.graph_core.proofs.Common.{IsClosed, Walk-stays, adjacent-edge, adjacent_from, adjacent_within, flood_closed, flood_own, flood_walk, has_ends-back, has_ends-own, Graph, IsConnected, IsCovered, IsMultigraph, IsPerfect, IsSide, Joined, Walk, adjacent, edges_in_cut, first_end, has_ends, in_cut, reaches, second_end, size}
-use Rattle.matching_digraph.proofs.Balance.{crossing, equal_sides, other_side, side_count}
-use Rattle.matching_digraph.proofs.TightShores.{ends_of_mates, mates_edge, mates_from}
-use Rattle.matching_digraph.specs.Digraph.{arc, are_mates}
+use Rattle.quick_kinds.proofs.from_matching_digraph.Balance.{crossing, equal_sides, other_side, side_count}
+use Rattle.quick_kinds.proofs.from_matching_digraph.TightShores.{ends_of_mates, mates_edge, mates_from}
+use Rattle.quick_kinds.specs.from_matching_digraph.Digraph.{arc, are_mates}
 use Rattle.theorems.proofs.BipartiteCovered.{by_neighbours}
 use Rattle.theorems.proofs.Marriages.{marriage, same_count, same_near, within_side}
 use Rattle.theorems.proofs.Neighbourhoods.{edge_neighbour, ends_cross, near_count, near_out, near_side, neighbour_edge, surplus}

@@ -2,13 +2,13 @@
 -- of the matching without a and b is strongly connected. A walk that begins no step at a never
 -- comes to b, since the only arc to b is that of a; and a tight shore with a and without b holds
 -- what a walk that keeps away from both leads to.
-use Rattle.counting.proofs.Common.{◌≡◌, ◌≢◌, ℕ, Bool, true, false, cond, ◌==◌, refl, sym, ap, ◌∙◌, arith, ◌&&◌, ◌||◌, ◌↔◌, not, eq-eqb, ne_eqb, inl, inr, List, [], ◌∷◌, and_from, and_parts, both_ways, not-true, Within, Set, complement, none}
+use Rattle.tree_check.proofs.from_counting.Common.{◌≡◌, ◌≢◌, ℕ, Bool, true, false, cond, ◌==◌, refl, sym, ap, ◌∙◌, arith, ◌&&◌, ◌||◌, ◌↔◌, not, eq-eqb, ne_eqb, inl, inr, List, [], ◌∷◌, and_from, and_parts, both_ways, not-true, Within, Set, complement, none}
 use Rattle.graph_core.proofs.Common.{IsClosed, Walk-stays, adjacent-edge, adjacent_within, IsCovered, Graph, IsGraph, IsPerfect, IsSide, HasOnlyTrivialTightCuts, Walk, adjacent}
-use Rattle.matching_digraph.proofs.ArcRows.{past-walks}
-use Rattle.matching_digraph.proofs.Shores.{second_member}
-use Rattle.matching_digraph.proofs.Spans.{none_at_all, none_spans}
-use Rattle.matching_digraph.proofs.TightShores.{at_ends, ends_of_mates, mate_one, mates_cross, tight_closed}
-use Rattle.matching_digraph.specs.Digraph.{NoArcLeaves, NoneParts, arc, are_mates, step_past}
+use Rattle.quick_kinds.proofs.from_matching_digraph.ArcRows.{past-walks}
+use Rattle.quick_kinds.proofs.from_matching_digraph.Shores.{second_member}
+use Rattle.quick_kinds.proofs.from_matching_digraph.Spans.{none_at_all, none_spans}
+use Rattle.quick_kinds.proofs.from_matching_digraph.TightShores.{at_ends, ends_of_mates, mate_one, mates_cross, tight_closed}
+use Rattle.quick_kinds.specs.from_matching_digraph.Digraph.{NoArcLeaves, NoneParts, arc, are_mates, step_past}
 use Rattle.theorems.specs.Braces.{IsStrongWithout, step_without}
 
 tested : (u v : ℕ) → u ≢ v → not (v == u) ≡ true

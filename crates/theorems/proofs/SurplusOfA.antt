@@ -1,7 +1,7 @@
 -- Each nonempty set of vertices of A has neighbours in more components of G[D] than it has
 -- vertices. A maximum matching that misses a vertex of one of these components matches the set
 -- into the others, at most one edge into each.
-use Rattle.counting.proofs.Common.{◌≡◌, ℕ, ◌+◌, ◌*◌, ◌≤◌, Bool, true, false, ◌==◌, ◌&&◌, ◌||◌, not, refl, sym, ap, ◌∙◌, arith, eqb-true, inl, inr, and_from, and_parts, both_ways, count_member, count_minus, false_from_ne_true, not-false, or_left, or_right, total_add, total_congr, total_le, true_some, Within, bit, count, some, total, Set, complement, minus, singleton, none}
+use Rattle.tree_check.proofs.from_counting.Common.{◌≡◌, ℕ, ◌+◌, ◌*◌, ◌≤◌, Bool, true, false, ◌==◌, ◌&&◌, ◌||◌, not, refl, sym, ap, ◌∙◌, arith, eqb-true, inl, inr, and_from, and_parts, both_ways, count_member, count_minus, false_from_ne_true, not-false, or_left, or_right, total_add, total_congr, total_le, true_some, Within, bit, count, some, total, Set, complement, minus, singleton, none}
 use Rattle.barrier_kit.proofs.Common.{cover_in, covers_out, covers, cut_family, leader_of, leads_out}
 use Rattle.graph_core.proofs.Common.{adjacent-edge, has_ends-cases, is_least, Graph, HasEnds, IsGraph, connects, degree, edges_in_cut, first_end, in_cut, joined, second_end, size, IsMaximum}
 use Rattle.match_search.proofs.Certificates.{ends_total}

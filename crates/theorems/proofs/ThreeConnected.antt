@@ -1,9 +1,9 @@
 -- A graph with four vertices or more is 3-connected if and only if it has no cut pair. Fewer than
 -- two vertices that separate a from b become two, as some others are left beside a and b; two
 -- leaders beside a cut pair are separated.
-use Rattle.counting.proofs.Common.{◌≡◌, ◌≢◌, ℕ, suc, ◌+◌, ◌≤◌, Bool, true, false, ◌==◌, ◌&&◌, ◌||◌, not, refl, sym, ap, ◌∙◌, arith, eq-eqb, eqb-true, ne_eqb, ◌↔◌, inl, inr, cases_lt, both_ways, and_parts, not-true, false_from_ne_true, alike_not_apart, but_from, count_complement, count_member, count_minus, count_zero, two_of, count_mono, count_singleton, total_add, total_le, Within, bit, count, Set, complement, minus, pair_set, singleton}
+use Rattle.tree_check.proofs.from_counting.Common.{◌≡◌, ◌≢◌, ℕ, suc, ◌+◌, ◌≤◌, Bool, true, false, ◌==◌, ◌&&◌, ◌||◌, not, refl, sym, ap, ◌∙◌, arith, eq-eqb, eqb-true, ne_eqb, ◌↔◌, inl, inr, cases_lt, both_ways, and_parts, not-true, false_from_ne_true, alike_not_apart, but_from, count_complement, count_member, count_minus, count_zero, two_of, count_mono, count_singleton, total_add, total_le, Within, bit, count, Set, complement, minus, pair_set, singleton}
 use Rattle.barrier_kit.proofs.Common.{leader_same, leads_out, part_step}
-use Rattle.brick_kit.proofs.PairSeparations.{separates}
+use Rattle.quick_kinds.proofs.from_brick_kit.PairSeparations.{separates}
 use Rattle.graph_core.proofs.Common.{joined_walk, walk_joined, joined_or_not, joined_self, component_count, is_least, Graph, IsGraph, first_end, second_end, IsCutPair, Joined, joined}
 use Rattle.theorems.specs.Bricks.{IsThreeConnected}
 

@@ -1,7 +1,7 @@
 -- The sets D and A are the outer and the inner vertices of a frame, so that D is the union of the
 -- odd components of G - A. Each maximum matching attains the bound of Berge at A, and the
 -- components of G[D] are the odd components of G - A.
-use Rattle.counting.proofs.Common.{◌≡◌, ◌↔◌, ℕ, ◌+◌, true, false, refl, sym, ap, ◌∙◌, arith, ◌&&◌, not, inl, inr, [], ◌∷◌, nat_lt, cases_Bool, both_ways, false_from_ne_true, and_parts, and_from, not-false, same_tests, count_congr, some_congr, fun_ext, Within, count, is_odd, Set, complement, none}
+use Rattle.tree_check.proofs.from_counting.Common.{◌≡◌, ◌↔◌, ℕ, ◌+◌, true, false, refl, sym, ap, ◌∙◌, arith, ◌&&◌, not, inl, inr, [], ◌∷◌, nat_lt, cases_Bool, both_ways, false_from_ne_true, and_parts, and_from, not-false, same_tests, count_congr, some_congr, fun_ext, Within, count, is_odd, Set, complement, none}
 use Rattle.barrier_kit.proofs.Common.{leads_out}
 use Rattle.graph_core.proofs.Common.{has_ends-from, joined_outside, joined_walk, walk_joined, edge_of, IsClosed, Walk-stays, adjacent-edge, adjacent_from, adjacent_within, has_ends-cases, joined_on, joined_self, Attains, component_count, is_least, odd_component_count, InA, InD, Graph, HasEnds, IsGraph, first_end, second_end, size, IsMaximum, Joined, adjacent, joined}
 use Rattle.match_core.proofs.OddComponents.{Best, best, certificate_components, certificate_maximum, inner_next, missable_outer, next_inner, outer_free, outer_missable}

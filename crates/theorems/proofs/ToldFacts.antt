@@ -1,9 +1,9 @@
 -- What an outcome of each command says, in the words of a textbook: its records give it, and
 -- if a task succeeds it is not refused. The files say what the command works on, and the
 -- outcome computes to the record of its task.
-use Rattle.counting.proofs.Common.{◌≡◌, ◌∙◌, ◌↔◌, ℕ, List, [], ◌∷◌, Option, Some, None, option_map, refl, sym, ap, subst, inl, inr, codes, mem}
-use Rattle.outside.specs.Common.{NamedFile}
-use Rattle.brick_kit.proofs.Bricks.{brick_or_not}
+use Rattle.tree_check.proofs.from_counting.Common.{◌≡◌, ◌∙◌, ◌↔◌, ℕ, List, [], ◌∷◌, Option, Some, None, option_map, refl, sym, ap, subst, inl, inr, codes, mem}
+use Rattle.bench_top.specs.from_outside.Common.{NamedFile}
+use Rattle.quick_kinds.proofs.from_brick_kit.Bricks.{brick_or_not}
 use Rattle.theorems.proofs.Quotients.{bricks-and_braces}
 use Rattle.ear_text.specs.EarFormat.{ear_format}
 use Rattle.graph_core.proofs.Common.{IsCovered, Graph, IsBipartite, IsMultigraph, size, singles, HasOnlyTrivialTightCuts, IsNontrivial, IsTight, IsVerdict, reason_of, reason-uncovered}
@@ -12,22 +12,22 @@ use Rattle.graph_core.specs.declared.verdict.Kind.TheVariants.{Brace, Brick, Com
 use Rattle.graph_core.specs.declared.verdict.Verdict.{Verdict}
 use Rattle.graph_core.specs.declared.verdict.Verdict.TheVariants.{Covered, NotCovered}
 use Rattle.graph_text.specs.Common.{NamedGraph}
-use Rattle.leaf_kinds.specs.LeafKinds.{IsKind}
-use Rattle.line_text.specs.Common.{Stands}
-use Rattle.move_laws.proofs.SingleVertices.{singles_stage}
+use Rattle.bench_top.specs.from_leaf_kinds.LeafKinds.{IsKind}
+use Rattle.graph_core.specs.from_line_text.Common.{Stands}
+use Rattle.tree_check.proofs.from_move_laws.SingleVertices.{singles_stage}
 use Rattle.report_text.specs.declared.structures.Structure.{Structure}
-use Rattle.tight_cuts.specs.Common.{Candidate}
-use Rattle.tree_core.proofs.Common.{tight-shores, IsDerivation, leaves, Shape}
-use Rattle.decomposer.specs.Common.{order_named}
+use Rattle.tree_check.specs.from_tight_cuts.Common.{Candidate}
+use Rattle.tree_check.proofs.from_tree_core.Common.{tight-shores, IsDerivation, leaves, Shape}
+use Rattle.bench_tasks.specs.from_decomposer.Common.{order_named}
 use Rattle.bench_tasks.specs.Common.{OnTrees, decompose_in, All, Loaded, and_then, graph_file, loaded_as, on_picks, on_trees, pick_file, picks_given, trees_given, Task}
 use Rattle.bench_tasks.specs.Tasks as task
 use Rattle.bench_tasks.specs.declared.verbs.GraphVerb.TheVariants.{Analyse, Decompose, Ears}
 use Rattle.bench_tasks.specs.declared.verbs.PicksVerb.TheVariants.{DecomposeBy}
 use Rattle.bench_tasks.specs.declared.verbs.TreesVerb.TheVariants.{Compare, Script}
-use Rattle.decomposer.specs.declared.orders.NamedOrder.{NamedOrder}
-use Rattle.bench_outcomes.specs.Common.{CompareGives, Compared, ScriptGives, Scripted, EarsGives, IsStructure, TellsStructure, Analysed, CommandGives, DecomposeGives, LoadedGives, Outcome, ResultOf}
-use Rattle.bench_outcomes.specs.declared.status.Status.{Status}
-use Rattle.bench_outcomes.specs.declared.status.Status.TheVariants.{Done, Negative}
+use Rattle.bench_tasks.specs.from_decomposer.declared.orders.NamedOrder.{NamedOrder}
+use Rattle.bench_top.specs.from_bench_outcomes.Common.{CompareGives, Compared, ScriptGives, Scripted, EarsGives, IsStructure, TellsStructure, Analysed, CommandGives, DecomposeGives, LoadedGives, Outcome, ResultOf}
+use Rattle.bench_top.specs.from_bench_outcomes.declared.status.Status.{Status}
+use Rattle.bench_top.specs.from_bench_outcomes.declared.status.Status.TheVariants.{Done, Negative}
 use Rattle.bench_top.proofs.LoadedGraphs.{Holds, graph-holds}
 use Rattle.bench_top.proofs.ReadGraphs.{HasGraph, IsRead}
 use Rattle.bench_top.proofs.Completeness.{done-given}

@@ -1,7 +1,7 @@
 -- Tutte's theorem, Berge's formula and Gallai's lemma, from the law of Tutte and Berge for every
 -- removed set. For the lemma, a matching of all but one vertex has as many ends in a set without a
 -- cut edge as the set has vertices left.
-use Rattle.counting.proofs.Common.{◌≡◌, ℕ, ◌+◌, ◌*◌, ◌≤◌, Bool, true, false, ◌==◌, ◌&&◌, not, refl, sym, ap, ◌∙◌, arith, eq-eqb, eqb-true, subst, ◌↔◌, inl, inr, both_ways, not_not_back, not_not, and_false, true≢false, count_complement, count_congr, count_le, count_minus, count_singleton, total_none, Within, bit, count, Outside, Set, complement, everything, minus, none, singleton, union}
+use Rattle.tree_check.proofs.from_counting.Common.{◌≡◌, ℕ, ◌+◌, ◌*◌, ◌≤◌, Bool, true, false, ◌==◌, ◌&&◌, not, refl, sym, ap, ◌∙◌, arith, eq-eqb, eqb-true, subst, ◌↔◌, inl, inr, both_ways, not_not_back, not_not, and_false, true≢false, count_complement, count_congr, count_le, count_minus, count_singleton, total_none, Within, bit, count, Outside, Set, complement, everything, minus, none, singleton, union}
 use Rattle.barrier_kit.proofs.Common.{perfect_congr}
 use Rattle.graph_core.proofs.Common.{berge_bound, degrees, joined_or_not, missed_edges, none_missed-perfect, parted, perfect_matching, perfect_misses, odd_component_count, Attains, Graph, IsConnected, IsGraph, InD, degree, in_cut, inside, size, HasPerfect, IsMatching, IsMaximum, IsPerfect, missed_count, Joined}
 use Rattle.match_core.proofs.Gallai.{no_two}

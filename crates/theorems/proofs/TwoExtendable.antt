@@ -1,11 +1,11 @@
 -- A bipartite covered graph has no nontrivial tight cut if and only if any two edges without a
 -- common end lie in a perfect matching. The cut of a nontrivial tight shore has two edges without
 -- a common end, by the neighbours of the vertices at which it is left.
-use Rattle.counting.proofs.Common.{◌≡◌, ◌≢◌, ℕ, ◌≤◌, ◌<◌, Bool, true, false, ◌==◌, ◌&&◌, ◌||◌, not, refl, sym, ap, ◌∙◌, arith, eq-eqb, eqb-true, subst, ◌↔◌, ◌⊎◌, inl, inr, and_from, and_parts, both_ways, cases_Bool, cases_eq, not-false, not-true, or_left, or_right, and_comm, but_fails_second, but_from, but_not, or_false_back, count_congr, count_member, count_minus, two_members, count_mono, count_split, Within, count, Set, complement, meet, minus, none, singleton, union}
+use Rattle.tree_check.proofs.from_counting.Common.{◌≡◌, ◌≢◌, ℕ, ◌≤◌, ◌<◌, Bool, true, false, ◌==◌, ◌&&◌, ◌||◌, not, refl, sym, ap, ◌∙◌, arith, eq-eqb, eqb-true, subst, ◌↔◌, ◌⊎◌, inl, inr, and_from, and_parts, both_ways, cases_Bool, cases_eq, not-false, not-true, or_left, or_right, and_comm, but_fails_second, but_from, but_not, or_false_back, count_congr, count_member, count_minus, two_members, count_mono, count_split, Within, count, Set, complement, meet, minus, none, singleton, union}
 use Rattle.barrier_kit.proofs.Common.{cut_edge, perfect_congr}
 use Rattle.graph_core.proofs.Common.{IsSide, IsCovered, Graph, IsMultigraph, first_end, has_ends, in_cut, second_end, size, HasPerfect, IsEnd, Together, HasOnlyTrivialTightCuts, IsTight, has_ends-back}
-use Rattle.matching_digraph.proofs.Balance.{equal_sides, other_side}
-use Rattle.matching_digraph.proofs.TightShores.{ends_within}
+use Rattle.quick_kinds.proofs.from_matching_digraph.Balance.{equal_sides, other_side}
+use Rattle.quick_kinds.proofs.from_matching_digraph.TightShores.{ends_within}
 use Rattle.quick_kinds.proofs.Braces.{braces}
 use Rattle.quick_kinds.specs.Braces.{AreFoursMatched, four_set}
 use Rattle.theorems.proofs.AddedEdges.{add_edge, ends_set}

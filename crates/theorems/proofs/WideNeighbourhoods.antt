@@ -1,7 +1,7 @@
 -- A bipartite covered graph has no nontrivial tight cut if and only if its small sets on a side
 -- have two neighbours more than vertices. A set with one neighbour more is with its neighbours a
 -- tight shore; and a nontrivial tight shore gives such a set.
-use Rattle.counting.proofs.Common.{◌≡◌, ℕ, ◌+◌, ◌≤◌, true, ◌&&◌, not, sym, ap, ◌∙◌, arith, ◌↔◌, inl, inr, and_from, and_parts, cases_lt, not-true, count_congr, and_implied, count_member, two_members, two_of, odd_three, count_mono, count_split, some_congr, Within, count, Set, complement, meet, minus, none, union}
+use Rattle.tree_check.proofs.from_counting.Common.{◌≡◌, ℕ, ◌+◌, ◌≤◌, true, ◌&&◌, not, sym, ap, ◌∙◌, arith, ◌↔◌, inl, inr, and_from, and_parts, cases_lt, not-true, count_congr, and_implied, count_member, two_members, two_of, odd_three, count_mono, count_split, some_congr, Within, count, Set, complement, meet, minus, none, union}
 use Rattle.graph_core.proofs.Common.{IsSide, IsCovered, Graph, IsMultigraph, HasOnlyTrivialTightCuts, IsTight, adjacent, tight_from_cut, covered_perfect}
 use Rattle.theorems.proofs.Neighbourhoods.{both_count, ends_cross, leaning, near_count, near_out, neighbour_edge, surplus}
 use Rattle.theorems.specs.Braces.{HasWideNeighbourhoods, neighbourhood}

@@ -2,10 +2,10 @@
 -- vertices. What two vertices part it into has vertices on both sides, since a vertex has three
 -- neighbours; and of one side the parts have few enough, so that the other side has to have more
 -- vertices than it.
-use Rattle.counting.proofs.Common.{◌≡◌, ℕ, ◌+◌, ◌≤◌, Bool, true, false, ◌==◌, ◌&&◌, ◌||◌, not, refl, sym, ap, ◌∙◌, arith, eq-eqb, eqb-true, inl, inr, and_parts, but_from, cases_lt, count_complement, count_congr, count_meet_union, count_member, count_mono, count_singleton, count_split, false_from_ne_true, member_count, or_left, two_of, Within, count, Set, complement, meet, minus, none, pair_set, singleton, union}
+use Rattle.tree_check.proofs.from_counting.Common.{◌≡◌, ℕ, ◌+◌, ◌≤◌, Bool, true, false, ◌==◌, ◌&&◌, ◌||◌, not, refl, sym, ap, ◌∙◌, arith, eq-eqb, eqb-true, inl, inr, and_parts, but_from, cases_lt, count_complement, count_congr, count_meet_union, count_member, count_mono, count_singleton, count_split, false_from_ne_true, member_count, or_left, two_of, Within, count, Set, complement, meet, minus, none, pair_set, singleton, union}
 use Rattle.barrier_kit.proofs.Common.{leader_same, leads_out, part_step}
 use Rattle.graph_core.proofs.Common.{joined_outside, joined_self, walk_joined, component_count, is_least, Graph, HasOnlyTrivialTightCuts, HasPerfect, IsConnected, IsCovered, IsCutPair, IsMultigraph, IsSide, first_end, has_ends, joined, second_end, size}
-use Rattle.matching_digraph.proofs.Balance.{equal_sides, other_side}
+use Rattle.quick_kinds.proofs.from_matching_digraph.Balance.{equal_sides, other_side}
 use Rattle.theorems.proofs.ExtendableCuts.{extendable_brick, extendable_uncut}
 use Rattle.theorems.proofs.Neighbourhoods.{near_side, neighbour_edge}
 use Rattle.theorems.proofs.Quotients.{bipartite-or}

@@ -2,7 +2,7 @@
 -- sections 5.1 and 5.2).
 -- Stated by: theorems.
 use Rattle.std.specs.Prelude.{◌≡◌, ℕ, ◌≤◌, Bool, List, ◌&&◌, true}
-use Rattle.counting.specs.Common.{Within, Set, some}
+use Rattle.tree_check.specs.from_counting.Common.{Within, Set, some}
 use Rattle.graph_core.specs.Common.{Graph, IsBarrier, Walk, has_ends, is_allowed, size}
 
 -- s is a maximal barrier: s = t for each barrier t ⊇ s

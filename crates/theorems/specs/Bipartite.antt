@@ -3,10 +3,10 @@
 -- "Matching Theory", section 4.1).
 -- Stated by: theorems.
 use Rattle.std.specs.Prelude.{◌≡◌, ℕ, ◌+◌, ◌≤◌, List, [], ◌∷◌, true, false}
-use Rattle.counting.specs.Common.{Within, count, Set, pair_set}
-use Rattle.ear_core.specs.Common.{IsEar, PlainEar, with_edges}
+use Rattle.tree_check.specs.from_counting.Common.{Within, count, Set, pair_set}
+use Rattle.ear_text.specs.from_ear_core.Common.{IsEar, PlainEar, with_edges}
 use Rattle.graph_core.specs.Common.{Graph, HasPerfect, Walk, size}
-use Rattle.matching_digraph.specs.Digraph.{arc}
+use Rattle.quick_kinds.specs.from_matching_digraph.Digraph.{arc}
 use Rattle.theorems.specs.Braces.{neighbourhood}
 
 -- |N(s)| ≥ |s| + 1 for each s ⊂ a with 1 ≤ |s| ≤ |a| − 1

@@ -2,9 +2,9 @@
 -- Lovász and Plummer, "Matching Theory").
 -- Stated by: theorems.
 use Rattle.std.specs.Prelude.{◌≡◌, ◌≢◌, ℕ, ◌+◌, ◌≤◌, Bool, ◌==◌, ◌&&◌, not, true, List}
-use Rattle.counting.specs.Common.{Within, count, Set, none, some}
+use Rattle.tree_check.specs.from_counting.Common.{Within, count, Set, none, some}
 use Rattle.graph_core.specs.Common.{Graph, size, IsEnd, Together, Walk, adjacent}
-use Rattle.matching_digraph.specs.Digraph.{arc}
+use Rattle.quick_kinds.specs.from_matching_digraph.Digraph.{arc}
 
 -- the vertices that edges join to a vertex of s
 abbrev pub neighbourhood : Graph → Set → Set

@@ -2,7 +2,7 @@
 -- barrier cut is given by the barrier, and a 2-separation cut by the cut pair.
 -- Stated by: theorems.
 use Rattle.std.specs.Prelude.{◌≡◌, ℕ, ◌≤◌, ◌⊎◌, false, not}
-use Rattle.counting.specs.Common.{Within, count, Set, pair_set, singleton, union}
+use Rattle.tree_check.specs.from_counting.Common.{Within, count, Set, pair_set, singleton, union}
 use Rattle.graph_core.specs.Common.{Graph, HasPerfect, IsBarrier, IsCutPair, IsNontrivial, IsTight, Joined, joined}
 
 -- 3-connected: at least four vertices, and G − r is connected for each r with |r| ≤ 2

@@ -2,11 +2,11 @@
 -- vertices that tight sets separate.
 -- Stated by: theorems.
 use Rattle.std.specs.Prelude.{◌≢◌, ℕ, List, ◌⊎◌}
-use Rattle.counting.specs.Common.{Within, ComesBefore, Set}
+use Rattle.tree_check.specs.from_counting.Common.{Within, ComesBefore, Set}
 use Rattle.graph_core.specs.Common.{IsCovered, Graph, quotient}
 use Rattle.graph_core.specs.declared.verdict.Kind.TheVariants as kind
-use Rattle.leaf_kinds.specs.LeafKinds.{IsKind}
-use Rattle.tight_cuts.specs.Common.{SeparatesTightly}
+use Rattle.bench_top.specs.from_leaf_kinds.LeafKinds.{IsKind}
+use Rattle.tree_check.specs.from_tight_cuts.Common.{SeparatesTightly}
 
 -- a brace: a bipartite matching covered graph without nontrivial tight cut
 abbrev pub IsBrace : Graph → Type 0

@@ -3,8 +3,8 @@
 -- Idea: a step adds one ear or two.
 -- Stated by: theorems.
 use Rattle.std.specs.Prelude.{◌≡◌, ℕ, ◌+◌, List, [], ◌∷◌, true}
-use Rattle.counting.specs.Common.{Set, mem}
-use Rattle.ear_core.specs.Common.{PlainStep, is_met, one, trail, two}
+use Rattle.tree_check.specs.from_counting.Common.{Set, mem}
+use Rattle.ear_text.specs.from_ear_core.Common.{PlainStep, is_met, one, trail, two}
 use Rattle.graph_core.specs.Common.{Graph, HasPerfect}
 
 -- how many ears the steps add

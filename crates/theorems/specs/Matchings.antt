@@ -2,7 +2,7 @@
 -- (Gallai 1964; Edmonds 1965; Lovász and Plummer, "Matching Theory", section 3.2).
 -- Stated by: theorems.
 use Rattle.std.specs.Prelude.{◌≡◌, ◌↔◌, ℕ, ◌+◌, ◌*◌, ◌&&◌, true}
-use Rattle.counting.specs.Common.{count, Within, Set, complement, minus, singleton, some}
+use Rattle.tree_check.specs.from_counting.Common.{count, Within, Set, complement, minus, singleton, some}
 use Rattle.graph_core.specs.Common.{InA, InC, InD, Graph, connects, inside, is_least, size, HasPerfect, IsPerfect, joined}
 
 -- the Gallai-Edmonds sets of g: d = D(G), a = A(G) and c = C(G)

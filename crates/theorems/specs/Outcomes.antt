@@ -5,24 +5,24 @@
 use Rattle.std.specs.Prelude.{◌≡◌, ◌↔◌, ◌++◌, ℕ, List, [], ◌∷◌, All, Some, None, false, length, drop, map, if◌then◌else◌, codes, Option, Ok}
 use Rattle.std.specs.List.{AllByRecursion}
 use Rattle.std.specs.Option.{ForSome}
-use Rattle.outside.specs.Common.{Answer, AnswersInTurn, OpenState, PrintState, named_texts}
-use Rattle.counting.specs.Common.{Lists, mem}
+use Rattle.bench_top.specs.from_outside.Common.{Answer, AnswersInTurn, OpenState, PrintState, named_texts}
+use Rattle.tree_check.specs.from_counting.Common.{Lists, mem}
 use Rattle.graph_core.specs.Common.{InA, InC, InD, Graph, IsBipartite, size, singles, IsBicritical, IsCutPair, HasOnlyTrivialTightCuts, IsNontrivial, IsTight, IsWithinLimits}
 use Rattle.graph_core.specs.declared.verdict.Kind.TheVariants.{Brace, Brick, Composite}
 use Rattle.graph_text.specs.Common.{NamedGraph, AreNames, either_version}
-use Rattle.tree_core.specs.Common.{IsDerivation, IsTightShore, PlainLeafMap, leaf_at, map_at, leaves, PlainMove, TurnsThrough, Shape, shores}
-use Rattle.tree_text.specs.Common.{tree_format}
-use Rattle.line_text.specs.Common.{Stands, begin_with, lines_of as text_lines, numbers_of, words_of}
-use Rattle.move_laws.specs.Common.{image}
+use Rattle.tree_check.specs.from_tree_core.Common.{IsDerivation, IsTightShore, PlainLeafMap, leaf_at, map_at, leaves, PlainMove, TurnsThrough, Shape, shores}
+use Rattle.move_text.specs.from_tree_text.Common.{tree_format}
+use Rattle.graph_core.specs.from_line_text.Common.{Stands, begin_with, lines_of as text_lines, numbers_of, words_of}
+use Rattle.tree_check.specs.from_move_laws.Common.{image}
 use Rattle.move_text.specs.Common.{move_format}
-use Rattle.ear_core.specs.Common.{IsEarList, IsSingle, IsUnrefinable, PlainEars, TakesSingles}
+use Rattle.ear_text.specs.from_ear_core.Common.{IsEarList, IsSingle, IsUnrefinable, PlainEars, TakesSingles}
 use Rattle.ear_text.specs.EarFormat.{ear_format}
 use Rattle.report_text.specs.Common.{analysis_text, pairing_text}
 use Rattle.report_text.specs.declared.analyses.AnalysisLines.{AnalysisLines}
 use Rattle.report_text.specs.declared.structures.Structure.{Structure}
 use Rattle.bench_tasks.specs.Common.{pick_file}
 use Rattle.bench_tasks.specs.Common as loading
-use Rattle.bench_outcomes.specs.Common.{map_lines_of, with_given_names}
+use Rattle.bench_top.specs.from_bench_outcomes.Common.{map_lines_of, with_given_names}
 use Rattle.bench_top.specs.Writes.{WroteWhole}
 use Rattle.theorems.specs.CutWords.{EndsInBrickOrBrace}
 use Rattle.theorems.specs.Ears.{IsDisjoint}

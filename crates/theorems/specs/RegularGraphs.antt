@@ -2,7 +2,7 @@
 -- textbook; r-graphs: Seymour 1979.
 -- Stated by: theorems.
 use Rattle.std.specs.Prelude.{◌≡◌, ℕ, ◌≤◌, true, false}
-use Rattle.counting.specs.Common.{Within, count, is_odd, Set, everything}
+use Rattle.tree_check.specs.from_counting.Common.{Within, count, is_odd, Set, everything}
 use Rattle.graph_core.specs.Common.{Graph, degree, edges_in_cut}
 
 -- |∂(x)|

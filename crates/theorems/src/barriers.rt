@@ -4,7 +4,7 @@
 //! structure of factorizable graphs" (1972); Lovász and Plummer, "Matching Theory" (1986), chapter
 //! 5; Lucchesi and Murty, "Perfect Matchings" (2024).
 ghost use Rattle.std.specs.Prelude.{◌≡◌, ℕ, ◌↔◌, true, false};
-ghost use Rattle.counting.specs.Common.{Within, count, is_odd, none, Set};
+ghost use Rattle.tree_check.specs.from_counting.Common.{Within, count, is_odd, none, Set};
 ghost use Rattle.graph_core.specs.Common.{Allowed, component_count, Equivalent, first_end, Graph, HasPerfect, IsBarrier, IsBicritical, IsClass, IsCovered, IsGraph, joined, second_end, size};
 ghost use Rattle.theorems.specs.Barriers.{IsElementary, IsMaximalBarrier};
 ghost use Rattle.theorems.specs.Matchings.{IsFactorCritical};

@@ -3,9 +3,9 @@
 //! Sources: König (1916); Frobenius (1917); Hall, "On representatives of subsets" (1935); Hetyei
 //! (1964); Lovász and Plummer, "Matching Theory" (1986), sections 1.1 and 4.1.
 ghost use Rattle.std.specs.Prelude.{◌≡◌, ℕ, ◌≤◌, ◌↔◌, true, List};
-ghost use Rattle.counting.specs.Common.{Within, complement, count, everything, none, Set, singleton};
+ghost use Rattle.tree_check.specs.from_counting.Common.{Within, complement, count, everything, none, Set, singleton};
 ghost use Rattle.graph_core.specs.Common.{Graph, HasPerfect, IsConnected, IsCovered, IsMultigraph, IsPerfect, IsSide, size};
-ghost use Rattle.ear_core.specs.Common.{is_met, PlainEar};
+ghost use Rattle.ear_text.specs.from_ear_core.Common.{is_met, PlainEar};
 ghost use Rattle.theorems.specs.Bipartite.{AreEarsInTurn, ArePairsMatched, HasSurplus, IsStrong};
 ghost use Rattle.theorems.specs.Braces.{neighbourhood};
 

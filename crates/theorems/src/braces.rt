@@ -3,9 +3,9 @@
 //! Sources: Lovász, "Matching structure and the matching lattice" (1987); Plummer, "Matching
 //! extension in bipartite graphs" (1986); Lovász and Plummer, "Matching Theory".
 ghost use Rattle.std.specs.Prelude.{◌≡◌, ℕ, ◌≤◌, ◌↔◌, true};
-ghost use Rattle.counting.specs.Common.{Set, none};
+ghost use Rattle.tree_check.specs.from_counting.Common.{Set, none};
 ghost use Rattle.graph_core.specs.Common.{IsConnected, IsCovered, Graph, IsGraph, IsMultigraph, HasPerfect, IsPerfect, HasOnlyTrivialTightCuts, IsSide};
-ghost use Rattle.matching_digraph.specs.Digraph.{NoneParts, are_mates};
+ghost use Rattle.quick_kinds.specs.from_matching_digraph.Digraph.{NoneParts, are_mates};
 ghost use Rattle.quick_kinds.specs.Braces.{AreFoursMatched};
 ghost use Rattle.theorems.specs.Braces.{HasWideNeighbourhoods, IsStrongWithout, IsTwoExtendable};
 

@@ -3,16 +3,16 @@
 //!
 //! Source: Lovász, "Matching structure and the matching lattice" (1987).
 ghost use Rattle.std.specs.Prelude.{◌≡◌, ◌+◌, ◌*◌, ◌≤◌, ◌↔◌, ℕ, List, All, ◌==◌, ◌&&◌, Bool, length, count_by};
-ghost use Rattle.decomposer.specs.Common.{NamedPicks, ScriptPicks, IsPicked};
-ghost use Rattle.decomposer.specs.declared.orders.NamedOrder.{NamedOrder};
+ghost use Rattle.bench_tasks.specs.from_decomposer.Common.{NamedPicks, ScriptPicks, IsPicked};
+ghost use Rattle.bench_tasks.specs.from_decomposer.declared.orders.NamedOrder.{NamedOrder};
 ghost use Rattle.graph_core.specs.Common.{IsCovered, Graph, IsBipartite, IsGraph, IsMultigraph, IsPartition, singles, quotient, AreBlocks, HasOnlyTrivialTightCuts};
-ghost use Rattle.mcg6_lines.specs.Standings.{IsCounted};
-ghost use Rattle.tree_core.specs.declared.tallies.Tally.{Tally};
+ghost use Rattle.bench_top.specs.from_mcg6_lines.Standings.{IsCounted};
+ghost use Rattle.tree_check.specs.from_tree_core.declared.tallies.Tally.{Tally};
 ghost use Rattle.theorems.specs.Derivations.{ChoosesPlaces, IsCountedAt, PicksChosen, both};
-ghost use Rattle.tight_cuts.specs.Common.{Candidate};
-ghost use Rattle.tree_core.specs.Common.{IsDerivation, IsTightShore, kept_at, merged_at, Shape, cut, IsLeafAt, leaves, shores, leaf_at, cut_count};
+ghost use Rattle.tree_check.specs.from_tight_cuts.Common.{Candidate};
+ghost use Rattle.tree_check.specs.from_tree_core.Common.{IsDerivation, IsTightShore, kept_at, merged_at, Shape, cut, IsLeafAt, leaves, shores, leaf_at, cut_count};
 ghost use Rattle.theorems.specs.CutWords.{EndsInBrickOrBrace};
-ghost use Rattle.counting.specs.Common.{Within};
+ghost use Rattle.tree_check.specs.from_counting.Common.{Within};
 ghost use Rattle.theorems.specs.TightCuts.{IsBijection, IsIsomorphism, PairsLeaves, RespectsIsomorphism, is_two_sided};
 
 /// Lovász's uniqueness theorem: any two tight cut decompositions of a matching covered graph have

@@ -4,8 +4,8 @@
 //! Carvalho, Lucchesi and Murty, "Ear decompositions of matching covered graphs" (1999).
 ghost use Rattle.std.specs.Prelude.{◌≡◌, ◌+◌, ℕ, true, not, List, ◌≢◌, ◌⊎◌, false, [], ◌∷◌};
 ghost use Rattle.std.specs.List.{AllByRecursion};
-ghost use Rattle.counting.specs.Common.{Within, count, Set, everything, IsIn, pair_set, union};
-ghost use Rattle.ear_core.specs.Common.{IsEarList, IsSingle, IsUnrefinable, PlainEars, TakesSingles, IsEar, last_vertex, IsStage, is_met, with_edges, AreForced, AreNeeded, AreSteps, IsNeeded, IsStep, PlainStep, next_stage};
+ghost use Rattle.tree_check.specs.from_counting.Common.{Within, count, Set, everything, IsIn, pair_set, union};
+ghost use Rattle.ear_text.specs.from_ear_core.Common.{IsEarList, IsSingle, IsUnrefinable, PlainEars, TakesSingles, IsEar, last_vertex, IsStage, is_met, with_edges, AreForced, AreNeeded, AreSteps, IsNeeded, IsStep, PlainStep, next_stage};
 ghost use Rattle.graph_core.specs.Common.{IsCovered, Graph, IsBipartite, IsGraph, IsMultigraph, in_cut, size, HasPerfect, IsSide, with_ends};
 ghost use Rattle.theorems.specs.Ears.{ear_count, IsConformal, IsDisjoint};
 ghost use Rattle.two_ears.specs.AddedEdges.{with_pairs};

@@ -2,9 +2,9 @@
 //!
 //! Source: Lovász and Plummer, "Matching Theory" (1986), section 5.1.
 ghost use Rattle.std.specs.Prelude.{◌≡◌, ℕ, List, length};
-ghost use Rattle.counting.specs.Common.{IsIn, Within, none};
+ghost use Rattle.tree_check.specs.from_counting.Common.{IsIn, Within, none};
 ghost use Rattle.graph_core.specs.Common.{Allowed, Graph, HasPerfect, IsCovered, IsMultigraph, size};
-ghost use Rattle.mcg6_lines.specs.Elementary.{component_graph, elementary_parts};
+ghost use Rattle.bench_top.specs.from_mcg6_lines.Elementary.{component_graph, elementary_parts};
 
 /// Elementary components: in a graph with a perfect matching, each component of the subgraph of the
 /// allowed edges is a matching covered graph. If the graph has only one such component and each of

@@ -2,7 +2,7 @@
 //!
 //! Source: Plummer, "On n-extendable graphs" (1980).
 ghost use Rattle.std.specs.Prelude.{ℕ, ◌≤◌, ◌⊎◌};
-ghost use Rattle.counting.specs.Common.{none};
+ghost use Rattle.tree_check.specs.from_counting.Common.{none};
 ghost use Rattle.graph_core.specs.Common.{Graph, HasOnlyTrivialTightCuts, HasPerfect, IsBicritical, IsBipartite, IsConnected, IsCovered, IsMultigraph};
 ghost use Rattle.theorems.specs.Braces.{IsTwoExtendable};
 ghost use Rattle.theorems.specs.Bricks.{IsThreeConnected};

@@ -2,19 +2,19 @@
 //!
 //! Each law here is the contract of a function that does nothing.
 ghost use Rattle.std.specs.Prelude.{◌≡◌, ◌++◌, ℕ, List, [], ◌∷◌, Option, codes};
-ghost use Rattle.outside.specs.Common.{NamedFile, OpenState, PrintState};
+ghost use Rattle.bench_top.specs.from_outside.Common.{NamedFile, OpenState, PrintState};
 ghost use Rattle.graph_core.specs.Common.{IsCovered};
 ghost use Rattle.graph_text.specs.Common.{NamedGraph};
-ghost use Rattle.tree_core.specs.Common.{IsDerivation, Shape};
+ghost use Rattle.tree_check.specs.from_tree_core.Common.{IsDerivation, Shape};
 ghost use Rattle.bench_tasks.specs.Common.{Command, command_of};
-ghost use Rattle.bench_outcomes.specs.Common.{IsSettled};
-ghost use Rattle.bench_outcomes.specs.declared.status.Status.{Status};
-ghost use Rattle.bench_outcomes.specs.declared.status.Status.TheVariants.{Done};
+ghost use Rattle.bench_top.specs.from_bench_outcomes.Common.{IsSettled};
+ghost use Rattle.bench_top.specs.from_bench_outcomes.declared.status.Status.{Status};
+ghost use Rattle.bench_top.specs.from_bench_outcomes.declared.status.Status.TheVariants.{Done};
 ghost use Rattle.bench_top.specs.Given.{GivenOutcome};
 ghost use Rattle.bench_top.specs.Installed.{HasReported, InstalledOutcome, IsReportOn};
 ghost use Rattle.theorems.specs.Outcomes.{HoldsPicks, IsInstalledRun, StandsForGraph, StandsForTree, TellsDecomposition, TellsEars, TellsKind, TellsPairing, TellsScript, TellsSets};
 
-use outside::{DirShelf, OutSink, Shelf, Sink};
+use bench_top::outside::{DirShelf, OutSink, Shelf, Sink};
 use std::rt::Files;
 
 /// The headline for the shelf and the sink that are installed, which note what they were given and

@@ -3,7 +3,7 @@
 //!
 //! Source: Lovász and Plummer, "Matching Theory" (1986), chapter 3.
 ghost use Rattle.std.specs.Prelude.{◌≡◌, ℕ, ◌+◌, ◌≤◌, true, ◌↔◌};
-ghost use Rattle.counting.specs.Common.{Within, count, Set, complement, none, everything, Outside, union};
+ghost use Rattle.tree_check.specs.from_counting.Common.{Within, count, Set, complement, none, everything, Outside, union};
 ghost use Rattle.graph_core.specs.Common.{Attains, component_count, Graph, HasEnds, IsGraph, edges_in_cut, size, IsMaximum, missed_count, HasPerfect, InD, IsConnected, IsMatching, odd_component_count};
 ghost use Rattle.theorems.specs.Matchings.{AreThreeSets, HasPerfectWithin, IsFactorCritical, MatchesAllButOne, MatchesWithin, component_in, parts_beside};
 

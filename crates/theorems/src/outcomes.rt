@@ -2,13 +2,13 @@
 //!
 //! Each law here is the contract of a function that does nothing.
 ghost use Rattle.std.specs.Prelude.{◌≡◌, ◌⊎◌, ℕ, List, [], ◌∷◌, Some, codes};
-ghost use Rattle.counting.specs.Common.{Within};
-ghost use Rattle.outside.specs.Common.{NamedFile};
+ghost use Rattle.tree_check.specs.from_counting.Common.{Within};
+ghost use Rattle.bench_top.specs.from_outside.Common.{NamedFile};
 ghost use Rattle.graph_core.specs.Common.{IsCovered, Graph, IsMultigraph, size};
 ghost use Rattle.graph_text.specs.Common.{NamedGraph};
-ghost use Rattle.tree_core.specs.Common.{IsDerivation, PlainMove, Shape};
+ghost use Rattle.tree_check.specs.from_tree_core.Common.{IsDerivation, PlainMove, Shape};
 ghost use Rattle.tree_check.specs.Common.{HasShores};
-ghost use Rattle.ear_core.specs.Common.{PlainEars};
+ghost use Rattle.ear_text.specs.from_ear_core.Common.{PlainEars};
 ghost use Rattle.bench_tasks.specs.Common.{Command, command_of, Absent, All, graph_file, loaded, pick_file, trees_given, Task};
 ghost use Rattle.bench_tasks.specs.Tasks.{OnEars, OnGraph, OnMoves, OnNumbers, OnPicks, OnSimpleGraph, OnTree, OnTrees};
 ghost use Rattle.bench_tasks.specs.declared.verbs.GraphVerb.TheVariants.{Analyse, Convert, Decompose, Ears};
@@ -19,17 +19,17 @@ ghost use Rattle.bench_tasks.specs.declared.verbs.EarsVerb.TheVariants.{CheckEar
 ghost use Rattle.bench_tasks.specs.declared.verbs.MovesVerb.TheVariants.{Replay};
 ghost use Rattle.bench_tasks.specs.declared.verbs.TreesVerb.TheVariants.{Compare, Script};
 ghost use Rattle.bench_tasks.specs.declared.verbs.NumbersVerb.TheVariants.{Grow};
-ghost use Rattle.decomposer.specs.declared.orders.NamedOrder.{NamedOrder};
-ghost use Rattle.bench_outcomes.specs.Common.{Outcome, ResultOf};
-ghost use Rattle.bench_outcomes.specs.declared.status.Status.{Status};
-ghost use Rattle.bench_outcomes.specs.declared.status.Status.TheVariants.{Done};
+ghost use Rattle.bench_tasks.specs.from_decomposer.declared.orders.NamedOrder.{NamedOrder};
+ghost use Rattle.bench_top.specs.from_bench_outcomes.Common.{Outcome, ResultOf};
+ghost use Rattle.bench_top.specs.from_bench_outcomes.declared.status.Status.{Status};
+ghost use Rattle.bench_top.specs.from_bench_outcomes.declared.status.Status.TheVariants.{Done};
 ghost use Rattle.bench_top.specs.Given.{GivenOutcome};
-ghost use Rattle.mcg6_lines.specs.declared.query.Query.{Query};
+ghost use Rattle.bench_top.specs.from_mcg6_lines.declared.query.Query.{Query};
 ghost use Rattle.mcg6_top.specs.Common.{HasAnswer, HasListOutcome};
 ghost use Rattle.mcg6_top.specs.declared.command.AtBadLine.{AtBadLine};
 ghost use Rattle.theorems.specs.Outcomes.{HoldsPicks, IsDoneRun, IsFileGraph, StandsForGraph, StandsForTree, TellsDecomposition, TellsEars, TellsKind, TellsPairing, TellsScript, TellsSets};
 
-use outside::{Shelf, Sink};
+use bench_top::outside::{Shelf, Sink};
 
 /// For every graph file, `analyse` lists the Gallai-Edmonds sets D, A and C. For every matching
 /// covered graph and every order of choice, `decompose` gives a tree of nontrivial tight cuts

@@ -1,18 +1,18 @@
 //! Appendix: laws on the definitions of the program. The third part of the candidates, the nodes
 //! of a tree, and what two derivations count.
 ghost use Rattle.std.specs.Prelude.{◌≡◌, ℕ, true, Some, None, ◌↔◌, List, length};
-ghost use Rattle.counting.specs.Common.{Within, Set};
+ghost use Rattle.tree_check.specs.from_counting.Common.{Within, Set};
 ghost use Rattle.graph_core.specs.Common.{Graph, IsGraph, size, singles};
-ghost use Rattle.tight_cuts.specs.Common.{common_shore, first_separated, greater_end, is_separated, lesser_end, separates_tightly, SeparatesTightly};
+ghost use Rattle.tree_check.specs.from_tight_cuts.Common.{common_shore, first_separated, greater_end, is_separated, lesser_end, separates_tightly, SeparatesTightly};
 ghost use Rattle.theorems.specs.CutWords.{IsFirstSeparated, IsSeparated};
 ghost use Rattle.std.specs.List.{AllZip};
-ghost use Rattle.tree_core.specs.Common.{LeadsTo, leaves, Shape, cut, cut_count, leaf, leaf_count, node_count, shores};
-ghost use Rattle.tree_core.specs.declared.path.Side.{Side};
+ghost use Rattle.tree_check.specs.from_tree_core.Common.{LeadsTo, leaves, Shape, cut, cut_count, leaf, leaf_count, node_count, shores};
+ghost use Rattle.tree_check.specs.from_tree_core.declared.path.Side.{Side};
 ghost use Rattle.theorems.specs.Preorder.{ListsPaths};
-ghost use Rattle.tree_core.specs.declared.tallies.Tally.{Tally};
-ghost use Rattle.mcg6_lines.specs.Standings.{IsCounted};
-ghost use Rattle.mcg6_lines.specs.Selecting.{HasProperty, LacksProperty};
-ghost use Rattle.mcg6_lines.specs.declared.query.Property.{Property};
+ghost use Rattle.tree_check.specs.from_tree_core.declared.tallies.Tally.{Tally};
+ghost use Rattle.bench_top.specs.from_mcg6_lines.Standings.{IsCounted};
+ghost use Rattle.bench_top.specs.from_mcg6_lines.Selecting.{HasProperty, LacksProperty};
+ghost use Rattle.bench_top.specs.from_mcg6_lines.declared.query.Property.{Property};
 
 /// The tests of the third part. A set separates two vertices x and y beside an edge from a to b
 /// exactly when it is a tight set with a and x and with neither b nor y. The pair is separated

@@ -4,9 +4,9 @@
 //! Edmonds (1965); Seymour, "On multi-colourings of cubic graphs, and conjectures of Fulkerson and
 //! Tutte" (1979); Lovász and Plummer, "Matching Theory", chapter 7.
 ghost use Rattle.std.specs.Prelude.{◌≡◌, ◌≢◌, ℕ, ◌≤◌, ◌↔◌, ◌+◌, ◌⊎◌, true};
-ghost use Rattle.counting.specs.Common.{Set, Within, count, is_odd};
+ghost use Rattle.tree_check.specs.from_counting.Common.{Set, Within, count, is_odd};
 ghost use Rattle.graph_core.specs.Common.{IsConnected, IsCovered, Graph, IsMultigraph, HasOnlyTrivialTightCuts, IsNontrivial, IsTight, IsSide, Allowed, size};
-ghost use Rattle.grow_gen.specs.Common.{IsCubic};
+ghost use Rattle.bench_tasks.specs.from_grow_gen.Common.{IsCubic};
 ghost use Rattle.theorems.specs.RegularGraphs.{HasWideOddCuts, IsRegular, IsTwoEdgeConnected, cut_size};
 ghost use Rattle.theorems.specs.CutWords.{IsBrace, IsBrick};
 

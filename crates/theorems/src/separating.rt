@@ -2,7 +2,7 @@
 //!
 //! Source: Carvalho, Lucchesi and Murty, "On a conjecture of Lovász concerning bricks" (2002).
 ghost use Rattle.std.specs.Prelude.{◌≡◌, ℕ, List, ◌↔◌, true, false};
-ghost use Rattle.counting.specs.Common.{Within, complement, count, is_odd, IsRisingIn, mem, Set};
+ghost use Rattle.tree_check.specs.from_counting.Common.{Within, complement, count, is_odd, IsRisingIn, mem, Set};
 ghost use Rattle.graph_core.specs.Common.{Graph, IsConnected, IsCovered, IsGraph, IsSide, IsTight};
 ghost use Rattle.theorems.specs.Separating.{IsMetOnce, IsSeparating};
 

@@ -1,6 +1,6 @@
 -- An edge that is written at another one: each edge still lies apart from the one at it.
 -- Idea: at the place that is set the new edge is known to lie apart, and other places stay.
-use Rattle.counting.proofs.Common.{ℕ, ◌<◌, List, length, get_or-set_same, get_or-set_other, slice_set, arith, cases_eq, Within}
+use Rattle.graph_core.proofs.from_counting.Common.{ℕ, ◌<◌, List, length, get_or-set_same, get_or-set_other, slice_set, arith, cases_eq, Within}
 use Rattle.graph_core.proofs.Common.{Graph, size, Together}
 use Rattle.tight_cuts.specs.Common.{LieApart}
 

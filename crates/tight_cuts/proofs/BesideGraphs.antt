@@ -2,9 +2,9 @@
 -- Idea: each edge of it comes from one of the edges so far, and each of these that is held with e
 -- is in it.
 use Rattle.std.proofs.Common.{◌≡◌, ℕ, ◌+◌, ◌≤◌, ◌<◌, ◌≢◌, true, ◌&&◌, List, [], ◌∷◌, ◌++◌, ap, ◌∙◌, arith, inl, inr, subst, ◌-◌, length-append, slice_index_or}
-use Rattle.counting.proofs.Common.{Any-from_list_any, list_any_at, and_from, and_parts, cases_lt, get_or_append_left, get_or-append_seam, Within, mem, none}
+use Rattle.graph_core.proofs.from_counting.Common.{Any-from_list_any, list_any_at, and_from, and_parts, cases_lt, get_or_append_left, get_or-append_seam, Within, mem, none}
 use Rattle.graph_core.proofs.Common.{Graph, size, first_end, second_end, with_edge, IsPerfect, Together}
-use Rattle.allowed_edges.specs.PairTables.{PairsValue, SettlesEdges, edge_lists, holds_both}
+use Rattle.barrier_kit.specs.from_allowed_edges.PairTables.{PairsValue, SettlesEdges, edge_lists, holds_both}
 use Rattle.tight_cuts.specs.Common.{IsBeside}
 
 -- the edges 1 to k are treated: those that a matching of ms holds together with e are in h

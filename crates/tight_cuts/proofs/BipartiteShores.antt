@@ -1,13 +1,13 @@
 -- What an edge of a bipartite graph gives, by the digraph of a perfect matching that holds it.
 -- Idea: the least tight shore with an end of the edge and x, and without the other end, is the
 -- intersection of all; and a pair is separated by a nontrivial one alone.
-use Rattle.counting.proofs.Common.{IfOk, Result, ◌≡◌, ℕ, true, ◌==◌, List, max, min, Some, None, eq-eqb, arith, same_tests, both_ways, false_from_ne_true, or_left, or_right, Within, mem, pair_set}
+use Rattle.graph_core.proofs.from_counting.Common.{IfOk, Result, ◌≡◌, ℕ, true, ◌==◌, List, max, min, Some, None, eq-eqb, arith, same_tests, both_ways, false_from_ne_true, or_left, or_right, Within, mem, pair_set}
 use Rattle.graph_core.proofs.Common.{IsCovered, Graph, first_end, second_end, size, IsWithinLimits}
-use Rattle.match_core.specs.Common.{MatchingValue, edges_of}
-use Rattle.matching_digraph.proofs.TightShores.{mates_from}
-use Rattle.matching_digraph.specs.Digraph.{IsLeastShore, NoneParts}
-use Rattle.matching_digraph.specs.Digraphs.{IsDigraphOf}
-use Rattle.matching_digraph.specs.declared.digraph.Digraph.{Digraph}
+use Rattle.barrier_kit.specs.from_match_core.Common.{MatchingValue, edges_of}
+use Rattle.quick_kinds.proofs.from_matching_digraph.TightShores.{mates_from}
+use Rattle.quick_kinds.specs.from_matching_digraph.Digraph.{IsLeastShore, NoneParts}
+use Rattle.quick_kinds.specs.from_matching_digraph.Digraphs.{IsDigraphOf}
+use Rattle.quick_kinds.specs.from_matching_digraph.declared.digraph.Digraph.{Digraph}
 use Rattle.tight_cuts.proofs.EdgeLoop.{ends_between}
 use Rattle.tight_cuts.specs.Common.{IsDigraphAt, first_separated, greater_end, is_separated, lesser_end, IsCommonShore, IsShoreOfEdge}
 use Rattle.tight_cuts.proofs.EdgeShores.{greater_within, lesser_within}

@@ -1,7 +1,7 @@
 -- Lists of candidates as the code makes them: the candidates of a list of canonical shores. Idea: a
 -- candidate goes by its shore alone, and a set and its rising list have the same numbers on both
 -- sides.
-use Rattle.counting.proofs.Common.{◌≡◌, ℕ, ◌-◌, Bool, true, false, refl, ap, ◌∙◌, arith, ◌||◌, List, [], ◌∷◌, ◌++◌, map, length, if◌then◌else◌, fold, list_any, count_congr, count_complement, count_mem_length, mem-rising_list, mem, rising_list, IsRisingIn, Set, complement}
+use Rattle.graph_core.proofs.from_counting.Common.{◌≡◌, ℕ, ◌-◌, Bool, true, false, refl, ap, ◌∙◌, arith, ◌||◌, List, [], ◌∷◌, ◌++◌, map, length, if◌then◌else◌, fold, list_any, count_congr, count_complement, count_mem_length, mem-rising_list, mem, rising_list, IsRisingIn, Set, complement}
 use Rattle.graph_core.proofs.Common.{canonical_list, with_cut, Graph, in_cut, canonical_shore}
 use Rattle.tight_cuts.specs.Common.{Candidate, Origin, candidate, candidate_at, cuts, shores_of, with_list, candidate_of}
 use Rattle.tight_cuts.specs.declared.candidate.Candidate.{Candidate as StoredCandidate}

@@ -1,6 +1,6 @@
 -- Clusters of vertices that no nontrivial tight cut separates. Idea: that none separates two
 -- vertices is an equivalence, and a pair is separated at an edge only by a nontrivial tight cut.
-use Rattle.counting.proofs.Common.{◌≡◌, ℕ, true, List, [], None, refl, sym, ap, ◌∙◌, arith, inl, inr, both_ways, cases_Bool, false_from_ne_true, Within, Set, item, mem, list_any}
+use Rattle.graph_core.proofs.from_counting.Common.{◌≡◌, ℕ, true, List, [], None, refl, sym, ap, ◌∙◌, arith, inl, inr, both_ways, cases_Bool, false_from_ne_true, Within, Set, item, mem, list_any}
 use Rattle.graph_core.proofs.Common.{Graph, IsCovered, IsGraph, first_end, second_end, in_cut, size, IsNontrivial}
 use Rattle.tight_cuts.proofs.EdgeLoop.{high_within, low_within, step_covers}
 use Rattle.tight_cuts.proofs.FirstPairs.{no_first}

@@ -2,9 +2,9 @@
 -- nontrivial shore has no more blocks there than before: so clusters stay clusters below a cut. And
 -- what is tight at a place is a union of blocks whose set is tight in the quotient, so clusters
 -- there and clusters of the quotient are made of one another.
-use Rattle.counting.proofs.Common.{◌≡◌, ℕ, ◌+◌, ◌≤◌, ◌<◌, ◌-◌, true, List, [], ◌∷◌, ◌++◌, length, get_or, slice_get, Some, sym, ap, ◌∙◌, arith, inl, inr, subst, slice_get_within, cases_eq, get_or-append_seam, get_or_append_left, get_or_from_slice_get, mem-within, member_count, member-of_set, rising_list-rises, Within, item, last_of, mem, complement, IsRisingIn, Set}
-use Rattle.contraction.proofs.MergedQuotients.{tight-before}
-use Rattle.contraction.proofs.QuotientLaws.{tight_at_up}
+use Rattle.graph_core.proofs.from_counting.Common.{◌≡◌, ℕ, ◌+◌, ◌≤◌, ◌<◌, ◌-◌, true, List, [], ◌∷◌, ◌++◌, length, get_or, slice_get, Some, sym, ap, ◌∙◌, arith, inl, inr, subst, slice_get_within, cases_eq, get_or-append_seam, get_or_append_left, get_or_from_slice_get, mem-within, member_count, member-of_set, rising_list-rises, Within, item, last_of, mem, complement, IsRisingIn, Set}
+use Rattle.tree_core.proofs.from_contraction.MergedQuotients.{tight-before}
+use Rattle.tree_core.proofs.from_contraction.QuotientLaws.{tight_at_up}
 use Rattle.graph_core.proofs.Common.{at_place, block_count_around, block_count_outside, block_count_rest, closed_up, complement-tight, complement_of-rises, inside_or_apart, in_union, mem_last, merge_of, place_in, shore-some, singles-tight, tight-singles, union_rest, IsCovered, Graph, IsGraph, AreBlocks, IsPartition, block, complement_of, merged, place, quotient, singles, union_of_blocks, IsTightAt, IsUnion, block_count, blocks_in, IsNontrivial}
 use Rattle.tree_core.proofs.Common.{seen-vertices, as_many-singles, IsCutAt, kept_at, merged_at, seen_at}
 use Rattle.tight_cuts.proofs.LiftedCandidates.{nontrivial-single, order_q, single-nontrivial, union-blocks, union-holds, union-nontrivial, union-tight, union-union}

@@ -1,11 +1,11 @@
 -- The candidates: none twice, each tight if the shores of the first two parts are, and each
 -- edge of a nontrivial tight cut in a candidate's cut.
-use Rattle.counting.proofs.Common.{◌≡◌, ℕ, true, refl, sym, ap, ◌∙◌, arith, List, [], ◌∷◌, ◌↔◌, subst, All, fold, AllPairs, true≢false, not-true, All-nil, All-head, All-tail, count_member, list_any, Within, mem, Set, complement}
+use Rattle.graph_core.proofs.from_counting.Common.{◌≡◌, ℕ, true, refl, sym, ap, ◌∙◌, arith, List, [], ◌∷◌, ◌↔◌, subst, All, fold, AllPairs, true≢false, not-true, All-nil, All-head, All-tail, count_member, list_any, Within, mem, Set, complement}
 use Rattle.tight_cuts.specs.Common.{ShoresDiffer, Barrier, Separation, cuts, front_candidates, Origin, Candidate, with_list, candidates, IsTightCandidate}
 use Rattle.barrier_kit.proofs.Common.{cut_edge, barrier_shores-tight, barrier_shores}
 use Rattle.graph_core.proofs.Common.{IsCovered, Graph, size, IsGraph, in_cut, IsTight, IsNontrivial}
-use Rattle.separation_kit.proofs.SeparationFacts.{separation_shores-tight}
-use Rattle.separation_kit.specs.Common.{separation_shores}
+use Rattle.quick_kinds.proofs.from_separation_kit.SeparationFacts.{separation_shores-tight}
+use Rattle.quick_kinds.specs.from_separation_kit.Common.{separation_shores}
 use Rattle.tight_cuts.proofs.EdgeLoop.{after_apart, after_found, after_covers}
 use Rattle.tight_cuts.proofs.Shores.{with_found, with_apart}
 

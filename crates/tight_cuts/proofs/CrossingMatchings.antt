@@ -1,11 +1,11 @@
 -- What the search for two edges of a cut in one perfect matching shows: the matching that it
 -- finds is not a witness of tightness, and if it finds none, no two edges of the cut lie
 -- together, which makes an odd cut tight.
-use Rattle.counting.proofs.Common.{◌≡◌, ℕ, ◌<◌, ◌&&◌, List, length, true, false, ap, ◌∙◌, arith, subst, All, Any-from_list_any, and_parts, cases_order, count_mem_length, complement_odd, false_from_ne_true, two_of, Within, count, is_odd, IsRisingIn, complement, mem, Set, none}
+use Rattle.graph_core.proofs.from_counting.Common.{◌≡◌, ℕ, ◌<◌, ◌&&◌, List, length, true, false, ap, ◌∙◌, arith, subst, All, Any-from_list_any, and_parts, cases_order, count_mem_length, complement_odd, false_from_ne_true, two_of, Within, count, is_odd, IsRisingIn, complement, mem, Set, none}
 use Rattle.barrier_kit.proofs.Common.{even_order}
 use Rattle.graph_core.proofs.Common.{covered_perfect, IsCovered, Graph, IsGraph, edges_in_cut, in_cut, size, IsPerfect, IsTight}
-use Rattle.allowed_edges.specs.PairTables.{IsNew, PairsValue, edge_lists, holds_both}
-use Rattle.match_core.specs.Common.{IsOf, MatchingValue, edges_of}
+use Rattle.barrier_kit.specs.from_allowed_edges.PairTables.{IsNew, PairsValue, edge_lists, holds_both}
+use Rattle.barrier_kit.specs.from_match_core.Common.{IsOf, MatchingValue, edges_of}
 use Rattle.tight_cuts.proofs.PairsOfEdges.{alone_tight, two_in_cut}
 use Rattle.tight_cuts.specs.Common.{CrossesTwice, NoLaterWith}
 

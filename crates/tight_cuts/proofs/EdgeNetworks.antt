@@ -1,6 +1,6 @@
 -- The network as the code makes it, edge by edge, is the contracted network of a pair list.
 -- Idea: one edge more is one arc more or none; equal rows give equal arcs.
-use Rattle.counting.proofs.Common.{◌≡◌, ℕ, suc, zero, ◌+◌, ◌≤◌, ◌<◌, ap, arith, List, ◌++◌, sum_by, inl, inr, sum_by-append, cases_eq, total}
+use Rattle.graph_core.proofs.from_counting.Common.{◌≡◌, ℕ, suc, zero, ◌+◌, ◌≤◌, ◌<◌, ap, arith, List, ◌++◌, sum_by, inl, inr, sum_by-append, cases_eq, total}
 use Rattle.flow_core.specs.Common.{Arc}
 use Rattle.graph_core.proofs.Common.{Graph, first_end, second_end}
 use Rattle.tight_cuts.specs.Common.{arc_between, arcs_by, at_place}

@@ -1,6 +1,6 @@
 -- The search over pairs in lexicographic order finds the first pair that is separated. Idea: a pair
 -- of which a vertex does not lead its piece is separated only if the earlier one of the leaders is.
-use Rattle.counting.proofs.Common.{◌≡◌, ℕ, ◌+◌, ◌<◌, Bool, true, false, ◌==◌, refl, ap, ap₂, ◌∙◌, arith, not, ◌&&◌, inl, inr, ◌⊎◌, List, Option, Some, None, eq-eqb, cases_eq, cases_lt, both_ways, Within, pair_set}
+use Rattle.graph_core.proofs.from_counting.Common.{◌≡◌, ℕ, ◌+◌, ◌<◌, Bool, true, false, ◌==◌, refl, ap, ap₂, ◌∙◌, arith, not, ◌&&◌, inl, inr, ◌⊎◌, List, Option, Some, None, eq-eqb, cases_eq, cases_lt, both_ways, Within, pair_set}
 use Rattle.graph_core.proofs.Common.{IsCovered, Graph, size, IsWithinLimits}
 use Rattle.tight_cuts.proofs.EdgeLoop.{first_pair, no_pair, ends_between}
 use Rattle.tight_cuts.proofs.EdgeShores.{ends_apart, lesser_within, greater_within, least_leads}

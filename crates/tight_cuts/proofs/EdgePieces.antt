@@ -1,7 +1,7 @@
 -- What the pairs with one first vertex x give, by one set: the intersection of all tight sets
 -- that have x and an end of the edge, not the other. Idea: that intersection is one of these
 -- sets, so a pair (x, y) is separated exactly when it lacks y, and then it is the common shore.
-use Rattle.counting.proofs.Common.{◌≡◌, ◌≢◌, ℕ, ◌+◌, true, false, not, ◌==◌, refl, sym, ap, ◌∙◌, arith, inl, inr, List, Option, Some, None, eq-eqb, eqb-true, same_tests, cases_lt, both_ways, false_from_ne_true, cases_Bool, or_cases, or_left, or_right, complement, Within, mem, Set, pair_set}
+use Rattle.graph_core.proofs.from_counting.Common.{◌≡◌, ◌≢◌, ℕ, ◌+◌, true, false, not, ◌==◌, refl, sym, ap, ◌∙◌, arith, inl, inr, List, Option, Some, None, eq-eqb, eqb-true, same_tests, cases_lt, both_ways, false_from_ne_true, cases_Bool, or_cases, or_left, or_right, complement, Within, mem, Set, pair_set}
 use Rattle.barrier_kit.proofs.Common.{tight-turned}
 use Rattle.graph_core.proofs.Common.{IsCovered, Graph, IsGraph, size, IsWithinLimits}
 use Rattle.tight_cuts.proofs.EdgeLoop.{ends_between, first_pair, no_pair}

@@ -1,7 +1,7 @@
 -- What the groups of two pieces, or of one, give as the code finds it: a least cut of their
 -- network within the number of listed matchings. Idea: the network of the rows is the contracted
 -- network of the list, and the leaders give its groups.
-use Rattle.counting.proofs.Common.{◌≡◌, ℕ, suc, zero, ◌*◌, ◌≤◌, ◌<◌, ◌^◌, ◌≢◌, true, false, ◌&&◌, ◌||◌, not, get_or, refl, sym, ap, ap₂, ◌∙◌, arith, inl, inr, List, [], ◌∷◌, length, subst, subst₂, Option, Some, None, All, rules, cases_lt, count_congr, sum_by-cons, bit_le_one, complement, count, is_odd, Within, total, mem, Set, pair_set}
+use Rattle.graph_core.proofs.from_counting.Common.{◌≡◌, ℕ, suc, zero, ◌*◌, ◌≤◌, ◌<◌, ◌^◌, ◌≢◌, true, false, ◌&&◌, ◌||◌, not, get_or, refl, sym, ap, ap₂, ◌∙◌, arith, inl, inr, List, [], ◌∷◌, length, subst, subst₂, Option, Some, None, All, rules, cases_lt, count_congr, sum_by-cons, bit_le_one, complement, count, is_odd, Within, total, mem, Set, pair_set}
 use Rattle.graph_core.proofs.Common.{tight-same, components, is_least, IsCovered, Graph, size, edges_in_cut, first_end, second_end, has_ends, IsGraph, IsTight, Allowed, IsWithinLimits}
 use Rattle.flow_core.specs.Common.{HasCutWithin, IsLeastCut}
 use Rattle.tight_cuts.proofs.LeanLists.{grown_length}

@@ -1,6 +1,6 @@
 -- The first candidate stays while edges add more, and edges in the cut of a candidate add none.
 -- Idea: an edge leaves the list or appends to it.
-use Rattle.counting.proofs.Common.{◌≡◌, ℕ, suc, zero, ◌≤◌, refl, sym, ap, ◌∙◌, arith, List, [], Option, Some, None, map, slice_get, inl, inr, ◌↔◌, All, option_map, cases_eq, Within}
+use Rattle.graph_core.proofs.from_counting.Common.{◌≡◌, ℕ, suc, zero, ◌≤◌, refl, sym, ap, ◌∙◌, arith, List, [], Option, Some, None, map, slice_get, inl, inr, ◌↔◌, All, option_map, cases_eq, Within}
 use Rattle.graph_core.proofs.Common.{Graph, size}
 use Rattle.tight_cuts.proofs.EdgeLoop.{after_edges, after_suc}
 use Rattle.tight_cuts.proofs.FrontCandidates.{edges-all}

@@ -1,6 +1,6 @@
 -- The first pair consists of least vertices of pieces.
 -- Idea: a pair is separated by its pieces alone, so an earlier pair would be found.
-use Rattle.counting.proofs.Common.{◌≡◌, ℕ, suc, zero, ◌<◌, Bool, true, false, refl, sym, ap, ◌∙◌, arith, not, inl, inr, ◌⊎◌, List, [], ◌∷◌, ◌++◌, map, flat_map, Option, Some, None, nat_lt, ltb-true, find, flat_map-append, flat_map_single, find-append, option_or, and_parts, and_from, both_ways, false_from_ne_true, some_true, Within, rising_list, ordered_pairs, pair_with, Set, everything, pair_set}
+use Rattle.graph_core.proofs.from_counting.Common.{◌≡◌, ℕ, suc, zero, ◌<◌, Bool, true, false, refl, sym, ap, ◌∙◌, arith, not, inl, inr, ◌⊎◌, List, [], ◌∷◌, ◌++◌, map, flat_map, Option, Some, None, nat_lt, ltb-true, find, flat_map-append, flat_map_single, find-append, option_or, and_parts, and_from, both_ways, false_from_ne_true, some_true, Within, rising_list, ordered_pairs, pair_with, Set, everything, pair_set}
 use Rattle.graph_core.proofs.Common.{joined_outside, walk_joined, joined_self, is_least, Graph, size, IsGraph, has_ends, joined}
 use Rattle.tight_cuts.proofs.EdgeLoop.{first_pair}
 use Rattle.tight_cuts.proofs.LeastShores.{separated_says, separated_found}

@@ -1,11 +1,11 @@
 -- The candidates of the first two parts, as the code makes them, and the steps of the loop over
 -- the edges. Idea: a bicritical graph has no barrier cut, and one that is not has no separation
 -- shore.
-use Rattle.counting.proofs.Common.{◌≡◌, ℕ, ◌+◌, ◌<◌, true, false, refl, sym, ap, ap₂, ◌∙◌, arith, ◌&&◌, ◌||◌, not, List, [], ◌∷◌, ◌++◌, map, nat_le, Option, Some, slice_get, subst, All, fold, is_none, list_any, lt-leb, and_right, All-head, count_congr, rising_list-congr, Within, IsRisingIn, Set, mem}
+use Rattle.graph_core.proofs.from_counting.Common.{◌≡◌, ℕ, ◌+◌, ◌<◌, true, false, refl, sym, ap, ap₂, ◌∙◌, arith, ◌&&◌, ◌||◌, not, List, [], ◌∷◌, ◌++◌, map, nat_le, Option, Some, slice_get, subst, All, fold, is_none, list_any, lt-leb, and_right, All-head, count_congr, rising_list-congr, Within, IsRisingIn, Set, mem}
 use Rattle.std.specs.Option.{IfSome, option_map}
 use Rattle.barrier_kit.proofs.Common.{barrier_cuts, barrier_shores}
 use Rattle.graph_core.proofs.Common.{nontrivial-same, canonical_list, canonical_shore, first_end, in_cut, second_end, IsCanonicalCut, IsCovered, IsGraph, with_cut, Graph, size, is_bicritical, equivalent_pair}
-use Rattle.separation_kit.specs.Common.{separation_cuts, separation_shores}
+use Rattle.quick_kinds.specs.from_separation_kit.Common.{separation_cuts, separation_shores}
 use Rattle.tight_cuts.proofs.CandidateLists.{candidate-list, fold-cuts, choose-false, choose-true}
 use Rattle.tight_cuts.proofs.EdgeLoop.{after_edges, after_suc, shore_cuts}
 use Rattle.tight_cuts.proofs.Shores.{with_new}

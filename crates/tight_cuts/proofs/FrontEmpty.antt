@@ -1,12 +1,12 @@
 -- A covered graph that is not bipartite and has no candidate of the first two parts has none at
 -- all. It is bicritical, since else a barrier gives a cut, and has no cut pair, since else a
 -- separation does; so by the theorem on bricks no nontrivial shore is tight.
-use Rattle.counting.proofs.Common.{◌≡◌, ◌≤◌, ℕ, Option, Some, None, [], refl, sym, ◌∙◌, arith, count_complement, Set}
+use Rattle.graph_core.proofs.from_counting.Common.{◌≡◌, ◌≤◌, ℕ, Option, Some, None, [], refl, sym, ◌∙◌, arith, count_complement, Set}
 use Rattle.barrier_kit.proofs.Common.{no_sides, bicritical_no_cuts, some_cut, barrier_cuts}
-use Rattle.brick_kit.proofs.Bricks.{no_shore}
+use Rattle.quick_kinds.proofs.from_brick_kit.Bricks.{no_shore}
 use Rattle.graph_core.proofs.Common.{IsCovered, Graph, IsBipartite, IsMultigraph, IsBicritical, equivalent_pair, IsNontrivial, IsTight}
-use Rattle.separation_kit.proofs.SeparationFacts.{pair_some_cut, equivalent-none}
-use Rattle.separation_kit.specs.Common.{separation_cuts}
+use Rattle.quick_kinds.proofs.from_separation_kit.SeparationFacts.{pair_some_cut, equivalent-none}
+use Rattle.quick_kinds.specs.from_separation_kit.Common.{separation_cuts}
 use Rattle.tight_cuts.proofs.Completeness.{candidates_none}
 use Rattle.tight_cuts.proofs.FrontCandidates.{front-barriers, front-separations, equivalent-some}
 use Rattle.tight_cuts.proofs.LiftedCandidates.{map-none}

@@ -1,7 +1,7 @@
 -- By leaders the pieces of an edge become groups: one end with the piece of x, the other with the
 -- piece of y or alone, and each other piece. Idea: an end leads itself and no leader of a piece
 -- is an end, so a group's name says which vertices are in it.
-use Rattle.counting.proofs.Common.{◌≡◌, ℕ, ◌≢◌, true, false, cond, ◌==◌, refl, sym, ap, ◌∙◌, arith, inl, inr, ◌⊎◌, [], ◌∷◌, subst, eq-eqb, ne_eqb, eqb-true, cases_Bool, or_cases, or_left, or_right, both_ways, Within, Set, pair_set}
+use Rattle.graph_core.proofs.from_counting.Common.{◌≡◌, ℕ, ◌≢◌, true, false, cond, ◌==◌, refl, sym, ap, ◌∙◌, arith, inl, inr, ◌⊎◌, [], ◌∷◌, subst, eq-eqb, ne_eqb, eqb-true, cases_Bool, or_cases, or_left, or_right, both_ways, Within, Set, pair_set}
 use Rattle.graph_core.proofs.Common.{joined_walk, walk_joined, joined_self, is_least, components, Graph, IsGraph, Joined, joined}
 use Rattle.barrier_kit.proofs.Common.{leads_out}
 use Rattle.tight_cuts.proofs.Leaders.{leader-fixed, leader-joined, leader-joins, leader-least, leader-own}

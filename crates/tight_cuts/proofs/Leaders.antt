@@ -1,6 +1,6 @@
 -- The leader of a vertex is the least vertex of its component. Idea: in the list of components
 -- one alone holds the vertex, and a component's list begins with its least vertex.
-use Rattle.counting.proofs.Common.{◌≡◌, ℕ, ◌≤◌, true, false, cond, ◌==◌, refl, sym, ap, ◌∙◌, arith, ◌&&◌, not, inl, inr, ◌⊎◌, List, [], ◌∷◌, map, subst, eq-eqb, nat_lt, All, cases_lt, cases_Bool, and_parts, or_left, or_right, true≢false, both_ways, false_from_ne_true, not-true, All-head, All-tail, All-nil, All-cons, some_none, rising_holds, rising_only, mem-rising_list, rising_list-rises, first-least, Within, mem, rising_list, IsRisingIn, Set, some}
+use Rattle.graph_core.proofs.from_counting.Common.{◌≡◌, ℕ, ◌≤◌, true, false, cond, ◌==◌, refl, sym, ap, ◌∙◌, arith, ◌&&◌, not, inl, inr, ◌⊎◌, List, [], ◌∷◌, map, subst, eq-eqb, nat_lt, All, cases_lt, cases_Bool, and_parts, or_left, or_right, true≢false, both_ways, false_from_ne_true, not-true, All-head, All-tail, All-nil, All-cons, some_none, rising_holds, rising_only, mem-rising_list, rising_list-rises, first-least, Within, mem, rising_list, IsRisingIn, Set, some}
 use Rattle.graph_core.proofs.Common.{joined_outside, walk_joined, joined_self, is_least, components, Graph, IsGraph, joined}
 use Rattle.barrier_kit.proofs.Common.{leader_of, leader_same, leads_out, part_same}
 use Rattle.tight_cuts.specs.Common.{head_or, leader}

@@ -1,8 +1,8 @@
 -- The length of a pair list that grows.
 -- Idea: each member is the first to hold some pair of edges, and no pair has two first members.
-use Rattle.counting.proofs.Common.{◌≡◌, ℕ, suc, zero, ◌-◌, ◌≤◌, Bool, true, false, refl, sym, ap, ◌∙◌, arith, ◌&&◌, not, inl, inr, List, [], length, nat_le, leb-true, All, cases_lt, cases_Bool, and_parts, and_from, true≢false, both_ways, false_from_ne_true, le-leb, count_le, count_le_one, some_true, true_some, total_le, total_none, total_swap, at_le_total, total_ones, bit, total, count, Within, mem, item, IsRisingIn, some}
+use Rattle.graph_core.proofs.from_counting.Common.{◌≡◌, ℕ, suc, zero, ◌-◌, ◌≤◌, Bool, true, false, refl, sym, ap, ◌∙◌, arith, ◌&&◌, not, inl, inr, List, [], length, nat_le, leb-true, All, cases_lt, cases_Bool, and_parts, and_from, true≢false, both_ways, false_from_ne_true, le-leb, count_le, count_le_one, some_true, true_some, total_le, total_none, total_swap, at_le_total, total_ones, bit, total, count, Within, mem, item, IsRisingIn, some}
 use Rattle.graph_core.proofs.Common.{IsLean}
-use Rattle.match_search.proofs.Gluing.{mem-holds}
+use Rattle.barrier_kit.proofs.from_match_search.Gluing.{mem-holds}
 
 low_count : (m f : ℕ) → count m (λ e. nat_le e f) ≤ f
 low_count zero f = omega arith

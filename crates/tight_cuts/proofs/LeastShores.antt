@@ -1,6 +1,6 @@
 -- The intersection of all tight sets that separate two pairs is one of them.
 -- Idea: the meet of two of them is odd by one matching with the edge, so a least one lies in each.
-use Rattle.counting.proofs.Common.{◌≡◌, ℕ, suc, zero, ◌≤◌, ◌≢◌, Bool, true, false, sym, ap, ap₂, arith, ◌&&◌, ◌||◌, not, inl, inr, nat_lt, lt-ltb, ltb-true, same_tests, cases_lt, and_parts, and_from, or_parts, or_from, both_ways, not-true, Respects, choose_set, some_set_found, each_passes, none_fails, set_found, count_congr, two_members, odd_three, total_tight, bit, count, Within, Set, meet, complement, pair_set, some_set}
+use Rattle.graph_core.proofs.from_counting.Common.{◌≡◌, ℕ, suc, zero, ◌≤◌, ◌≢◌, Bool, true, false, sym, ap, ap₂, arith, ◌&&◌, ◌||◌, not, inl, inr, nat_lt, lt-ltb, ltb-true, same_tests, cases_lt, and_parts, and_from, or_parts, or_from, both_ways, not-true, Respects, choose_set, some_set_found, each_passes, none_fails, set_found, count_congr, two_members, odd_three, total_tight, bit, count, Within, Set, meet, complement, pair_set, some_set}
 use Rattle.graph_core.proofs.Common.{is_tight_says, is_tight_found, tight-same, meet_tight, IsCovered, Graph, size, first_end, second_end, IsGraph, has_ends, Allowed, IsNontrivial}
 use Rattle.tight_cuts.proofs.PairsOfEdges.{odd_sides, others_stay, cut_between}
 use Rattle.tight_cuts.specs.Common.{separates_tightly, is_separated, common_shore, SeparatesTightly}

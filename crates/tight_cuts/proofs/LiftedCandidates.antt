@@ -1,8 +1,8 @@
 -- The candidates of a quotient as candidates of the graph. A union of blocks holds a vertex exactly
 -- when its set of places holds the vertex's place, so blocks in it are those of the set, and it is
 -- tight at the partition if the set is tight in the quotient.
-use Rattle.counting.proofs.Common.{◌≡◌, ℕ, ◌≤◌, Bool, true, false, not, ◌&&◌, List, [], ◌∷◌, map, length, refl, sym, ap, ◌∙◌, arith, subst, ◌↔◌, All, get_or, zero, suc, ◌<◌, eq-eqb, ne_eqb, ◌≢◌, if◌then◌else◌, and_parts, and_from, both_ways, cases_Bool, count_congr, count_le, mem-rising_list, rising_list-rises, some_true, true_some, Within, count, mem, Set, complement, some}
-use Rattle.contraction.proofs.QuotientLaws.{covered_down, tight_at_down, tight_at_up}
+use Rattle.graph_core.proofs.from_counting.Common.{◌≡◌, ℕ, ◌≤◌, Bool, true, false, not, ◌&&◌, List, [], ◌∷◌, map, length, refl, sym, ap, ◌∙◌, arith, subst, ◌↔◌, All, get_or, zero, suc, ◌<◌, eq-eqb, ne_eqb, ◌≢◌, if◌then◌else◌, and_parts, and_from, both_ways, cases_Bool, count_congr, count_le, mem-rising_list, rising_list-rises, some_true, true_some, Within, count, mem, Set, complement, some}
+use Rattle.tree_core.proofs.from_contraction.QuotientLaws.{covered_down, tight_at_down, tight_at_up}
 use Rattle.graph_core.proofs.Common.{place_in, place_is, at_rep, rep, rep_in, rep_place, quotient_graph, tight-same, nontrivial-same, blocks-singles, contracted-singles, singles-tight, tight-singles, length-singles, singles-partition, IsCovered, Graph, IsGraph, AreBlocks, IsPartition, block, place, singles, quotient, union_of_blocks, IsTightAt, IsUnion, blocks_in, IsNontrivial, IsTight}
 use Rattle.tree_core.proofs.SingleVertices.{as_many-singles, last-place}
 use Rattle.tight_cuts.specs.Common.{Candidate, IsTightCandidate, candidates, IsCandidateAt, candidates_at, lifted_candidate}

@@ -1,7 +1,7 @@
 -- The contracted network.
 -- Idea: the value of a set of nodes is the sum over the listed matchings of the cut of its
 -- vertices.
-use Rattle.counting.proofs.Common.{◌≡◌, ℕ, suc, zero, ◌+◌, ◌*◌, ◌≤◌, Bool, true, false, cond, ◌==◌, refl, sym, ap, ◌∙◌, arith, ◌&&◌, eq-eqb, eqb-true, List, [], ◌∷◌, length, sum_by, All, sum_by-append, same_tests, and_parts, and_from, or_cases, or_left, or_right, sum_by-cons, some_true, true_some, total_congr, total_add, total_none, bit, total, count, Within, is_odd, mem, none, Set, complement, pair_set, some}
+use Rattle.graph_core.proofs.from_counting.Common.{◌≡◌, ℕ, suc, zero, ◌+◌, ◌*◌, ◌≤◌, Bool, true, false, cond, ◌==◌, refl, sym, ap, ◌∙◌, arith, ◌&&◌, eq-eqb, eqb-true, List, [], ◌∷◌, length, sum_by, All, sum_by-append, same_tests, and_parts, and_from, or_cases, or_left, or_right, sum_by-cons, some_true, true_some, total_congr, total_add, total_none, bit, total, count, Within, is_odd, mem, none, Set, complement, pair_set, some}
 use Rattle.flow_core.specs.Common.{leaves_set, cut_value, Separates, IsLeastCut}
 use Rattle.graph_core.proofs.Common.{walk_joined, tight-same, joined_self, Graph, size, IsGraph, in_cut, edges_in_cut, has_ends, IsPerfect, IsTight, joined}
 use Rattle.tight_cuts.proofs.LeastShores.{common_in, common_from}

@@ -1,10 +1,10 @@
 -- Vertices that edges lying together with e join are on one side of each nontrivial tight set with
 -- e in its cut. If they are all vertices but the ends of e, no pair is separated at e.
-use Rattle.counting.proofs.Common.{◌≡◌, ◌≢◌, ℕ, Bool, true, false, ◌||◌, ◌&&◌, ◌⊎◌, not, ◌==◌, refl, sym, ◌∙◌, inl, inr, List, [], ◌∷◌, None, eq-eqb, eqb-true, arith, and_parts, both_ways, false_from_ne_true, not-true, or_cases, or_left, or_right, Within, item, mem, union, Set, none, pair_set}
+use Rattle.graph_core.proofs.from_counting.Common.{◌≡◌, ◌≢◌, ℕ, Bool, true, false, ◌||◌, ◌&&◌, ◌⊎◌, not, ◌==◌, refl, sym, ◌∙◌, inl, inr, List, [], ◌∷◌, None, eq-eqb, eqb-true, arith, and_parts, both_ways, false_from_ne_true, not-true, or_cases, or_left, or_right, Within, item, mem, union, Set, none, pair_set}
 use Rattle.graph_core.proofs.Common.{Graph, IsGraph, IsMultigraph, adjacent, first_end, has_perfect_says, in_cut, second_end, size, Together, IsNontrivial, IsTight, adjacent-edge, adjacent_within, has_ends-cases}
-use Rattle.allowed_edges.proofs.ThroughEdges.{two_glued}
-use Rattle.allowed_edges.specs.Leaving.{ShareNone}
-use Rattle.match_core.specs.Common.{are_partners}
+use Rattle.barrier_kit.proofs.from_allowed_edges.ThroughEdges.{two_glued}
+use Rattle.barrier_kit.specs.from_allowed_edges.Leaving.{ShareNone}
+use Rattle.barrier_kit.specs.from_match_core.Common.{are_partners}
 use Rattle.tight_cuts.proofs.EdgeLoop.{ends_between}
 use Rattle.tight_cuts.proofs.FirstPairs.{no_first}
 use Rattle.tight_cuts.proofs.LeastShores.{parts_nontrivial, separated_says}

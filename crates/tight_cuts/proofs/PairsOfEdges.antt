@@ -1,7 +1,7 @@
 -- A test of tightness: no two edges of the cut lie together. And how often the matchings of a list
 -- meet a cut. Idea: an odd set is met by each perfect matching, so one with an odd cut that is not
 -- tight is met twice by some.
-use Rattle.counting.proofs.Common.{◌≡◌, ℕ, suc, ◌+◌, ◌≤◌, ◌≢◌, true, false, sym, ap, ◌∙◌, arith, ◌&&◌, not, List, [], ◌∷◌, length, sum_by, get_or, All, cases_lt, and_parts, and_from, false_from_ne_true, All-head, All-tail, All-cons, All-nil, sum_by-cons, two_members, two_of, odd-double, complement_odd, total_at, bit, count, Within, is_odd, mem, Set, none, complement}
+use Rattle.graph_core.proofs.from_counting.Common.{◌≡◌, ℕ, suc, ◌+◌, ◌≤◌, ◌≢◌, true, false, sym, ap, ◌∙◌, arith, ◌&&◌, not, List, [], ◌∷◌, length, sum_by, get_or, All, cases_lt, and_parts, and_from, false_from_ne_true, All-head, All-tail, All-cons, All-nil, sum_by-cons, two_members, two_of, odd-double, complement_odd, total_at, bit, count, Within, is_odd, mem, Set, none, complement}
 use Rattle.barrier_kit.proofs.Common.{inner, even_order}
 use Rattle.graph_core.proofs.Common.{parity, odd_meets, Graph, size, IsGraph, in_cut, has_ends, edges_in_cut, IsPerfect, Allowed, Together, IsTight}
 use Rattle.tight_cuts.specs.Common.{cut_sum, NoTwoTogether}

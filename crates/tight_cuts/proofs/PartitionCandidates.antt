@@ -1,7 +1,7 @@
 -- The candidates at a partition: each is a candidate there, and there is none exactly when no
 -- nontrivial shore is tight. Idea: they are those of the graph itself, or those of the quotient
 -- led back. At single vertices of a covered graph they are its own.
-use Rattle.counting.proofs.Common.{◌≡◌, ◌↔◌, All, List, [], length, sym, subst, inl, inr, ℕ, arith, cases_eq, Set}
+use Rattle.graph_core.proofs.from_counting.Common.{◌≡◌, ◌↔◌, All, List, [], length, sym, subst, inl, inr, ℕ, arith, cases_eq, Set}
 use Rattle.graph_core.proofs.Common.{quotient_graph, length-singles, singles-partition, IsCovered, Graph, IsGraph, IsPartition, singles, quotient, IsTightAt, blocks_in, IsNontrivial}
 use Rattle.tight_cuts.proofs.Completeness.{candidates_found, candidates_none}
 use Rattle.tight_cuts.proofs.LiftedCandidates.{at-blocks, at-vertices, covered-single, quotient-found, quotient-none, singles-found, singles-none}

@@ -1,10 +1,10 @@
 -- Two edges that share no end lie together in a perfect matching only if the ends of the second
 -- are partners in the graph without the ends of the first: what the matching has besides the two
 -- is perfect without the four ends.
-use Rattle.counting.proofs.Common.{◌≡◌, ℕ, ◌==◌, ◌||◌, false, refl, arith, Within, Set, none}
+use Rattle.graph_core.proofs.from_counting.Common.{◌≡◌, ℕ, ◌==◌, ◌||◌, false, refl, arith, Within, Set, none}
 use Rattle.graph_core.proofs.Common.{Graph, IsMultigraph, first_end, second_end, size, Together, has_perfect_found}
-use Rattle.allowed_edges.specs.Leaving.{ShareNone, share_end}
-use Rattle.allowed_edges.proofs.ThroughEdges.{ends_free, two_cut}
+use Rattle.barrier_kit.specs.from_allowed_edges.Leaving.{ShareNone, share_end}
+use Rattle.barrier_kit.proofs.from_allowed_edges.ThroughEdges.{ends_free, two_cut}
 use Rattle.tight_cuts.specs.Common.{AreEndsPartners}
 
 -- the test of a common end tells

@@ -1,11 +1,11 @@
 -- The pieces of an edge. Idea: an edge that lies together with it meets neither of its ends, so
 -- it stays in one piece, and a tight set has it on one side.
-use Rattle.counting.proofs.Common.{◌≡◌, ℕ, ◌≤◌, ◌≢◌, Bool, true, false, sym, ap, ap₂, ◌∙◌, arith, ◌&&◌, ◌||◌, not, ne_eqb, or_from, both_ways, not-true, alike_not_apart, complement_odd, same_tests, count, Within, is_odd, Set, none, complement, pair_set}
+use Rattle.graph_core.proofs.from_counting.Common.{◌≡◌, ℕ, ◌≤◌, ◌≢◌, Bool, true, false, sym, ap, ap₂, ◌∙◌, arith, ◌&&◌, ◌||◌, not, ne_eqb, or_from, both_ways, not-true, alike_not_apart, complement_odd, same_tests, count, Within, is_odd, Set, none, complement, pair_set}
 use Rattle.barrier_kit.proofs.Common.{part_step, even_order}
 use Rattle.graph_core.proofs.Common.{joined_walk, walk_joined, ends_of, two_ends_le_degree, has_ends-cases, adjacent-edge, adjacent_within, Walk-stays, IsClosed, joined_self, Graph, size, first_end, second_end, IsGraph, in_cut, has_ends, IsPerfect, Together, IsTight, joined, Joined, adjacent}
 use Rattle.tight_cuts.proofs.PairsOfEdges.{lone_cut, odd_from_one, others_stay, cut_between}
 use Rattle.tight_cuts.specs.Common.{IsBeside}
-use Rattle.match_search.proofs.NearPerfectSets.{ends_far, ends_near}
+use Rattle.barrier_kit.proofs.from_match_search.NearPerfectSets.{ends_far, ends_near}
 
 -- a set that no edge of h leaves holds all of a component or nothing
 pub uncrossed_joined : (h : Graph) (s z : Set) → IsGraph h → ((f : ℕ) → Within (size h) f → in_cut h z f ≡ false) → (u v : ℕ) → joined h s u v ≡ true → z u ≡ z v

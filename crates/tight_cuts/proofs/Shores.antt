@@ -1,7 +1,7 @@
 -- Canonical shores, shores as rising lists, and what one more shore does to a list of candidates.
 -- Idea: a set, its canonical shore and its rising list have the same cut, and a shore more is
 -- either left out or pushed at the end.
-use Rattle.counting.proofs.Common.{◌≡◌, ℕ, Bool, true, false, refl, sym, ap, ap₂, ◌∙◌, ◌&&◌, ◌||◌, not, inl, inr, ◌⊎◌, List, [], ◌∷◌, ◌++◌, subst, All, arith, AllPairs, All-push, list_any_at, Any-from_list_any, all_pairs_push, same_tests, and_parts, and_from, or_left, or_right, true≢false, both_ways, false_from_ne_true, list_any-append, count_congr, rising_only, mem-rising_list, rising_list-rises, true_all_in, all_in_true, list_any, Within, mem, rising_list, is_subset, Set, complement}
+use Rattle.graph_core.proofs.from_counting.Common.{◌≡◌, ℕ, Bool, true, false, refl, sym, ap, ap₂, ◌∙◌, ◌&&◌, ◌||◌, not, inl, inr, ◌⊎◌, List, [], ◌∷◌, ◌++◌, subst, All, arith, AllPairs, All-push, list_any_at, Any-from_list_any, all_pairs_push, same_tests, and_parts, and_from, or_left, or_right, true≢false, both_ways, false_from_ne_true, list_any-append, count_congr, rising_only, mem-rising_list, rising_list-rises, true_all_in, all_in_true, list_any, Within, mem, rising_list, is_subset, Set, complement}
 use Rattle.barrier_kit.proofs.Common.{canonical-tight, canonical-wide, nontrivial-true, true-nontrivial, canonical-out}
 use Rattle.graph_core.proofs.Common.{is_listed, Graph, size, first_end, second_end, IsGraph, in_cut, IsTight, IsNontrivial, canonical_shore, is_nontrivial, tight-same, nontrivial-same}
 use Rattle.tight_cuts.specs.Common.{Origin, Candidate, ShoresDiffer, candidate, cuts, shores_of, with_shore, IsTightCandidate}

@@ -1,9 +1,9 @@
 -- A set with one vertex more of one side of a bipartite graph, which no edge leaves from the other
 -- side, has a tight cut. Idea: what leaves the set from the side outnumbers what leaves it from the
 -- other by the surplus of vertices.
-use Rattle.counting.proofs.Common.{◌≡◌, ℕ, ◌+◌, ◌&&◌, not, false, List, length, sym, arith, count_congr, count_mem_length, total_none, bit, count, Within, complement, mem, meet, minus, Set, IsRisingIn}
+use Rattle.graph_core.proofs.from_counting.Common.{◌≡◌, ℕ, ◌+◌, ◌&&◌, not, false, List, length, sym, arith, count_congr, count_mem_length, total_none, bit, count, Within, complement, mem, meet, minus, Set, IsRisingIn}
 use Rattle.graph_core.proofs.Common.{Graph, IsGraph, IsSide, connects, size, CutIsTight}
-use Rattle.matching_digraph.proofs.Balance.{balance, leaves_right}
+use Rattle.quick_kinds.proofs.from_matching_digraph.Balance.{balance, leaves_right}
 
 module _ (g : Graph) (is : IsGraph g) (x : Set) (two : IsSide g x) (y : Set) where
   -- by the numbers of vertices on both sides

@@ -1,9 +1,9 @@
 -- A perfect matching with two edges in the cut of an odd set has a third there, by parity. So if
 -- each vertex at which edges leave the set is alone, or has at most one such vertex after it, then
 -- no perfect matching has two edges in the cut.
-use Rattle.counting.proofs.Common.{◌≡◌, ◌≢◌, ◌⊎◌, ℕ, suc, List, [], ◌∷◌, length, ◌<◌, ◌≤◌, ◌+◌, ◌%◌, ◌==◌, ◌&&◌, ◌↔◌, Bool, true, sym, ap, ◌∙◌, subst, arith, inl, inr, and_from, and_parts, cases_order, count, count_congr, count_member, count_minus, is_odd, mem, minus, odd-double, singleton, Within, IsRisingIn, Set, none, count_mem_length, odd_remainder}
+use Rattle.graph_core.proofs.from_counting.Common.{◌≡◌, ◌≢◌, ◌⊎◌, ℕ, suc, List, [], ◌∷◌, length, ◌<◌, ◌≤◌, ◌+◌, ◌%◌, ◌==◌, ◌&&◌, ◌↔◌, Bool, true, sym, ap, ◌∙◌, subst, arith, inl, inr, and_from, and_parts, cases_order, count, count_congr, count_member, count_minus, is_odd, mem, minus, odd-double, singleton, Within, IsRisingIn, Set, none, count_mem_length, odd_remainder}
 use Rattle.graph_core.proofs.Common.{Graph, IsGraph, in_cut, inside, parity, size, IsEnd, IsPerfect, edges_in_cut}
-use Rattle.allowed_edges.proofs.PairSteps.{apart_shared}
+use Rattle.barrier_kit.proofs.from_allowed_edges.PairSteps.{apart_shared}
 use Rattle.tight_cuts.proofs.PairsOfEdges.{two_in_cut}
 use Rattle.tight_cuts.proofs.TurnedEdges.{end_within, leaves_at}
 use Rattle.tight_cuts.specs.Common.{HasFewLater, Leaves, LeavesAlone, NoTwoTogether}
@@ -22,7 +22,7 @@ vertex_of g x v e is we leaves = end_within g e v is we leaves.end
 pub odd_inside : (n : ℕ) (full set inside : List ℕ) → IsRisingIn 128 inside → ((v : ℕ) → (mem full v ≡ true) ↔ Within n v) → ((v : ℕ) → mem inside v ≡ (mem full v && mem set v)) → (k : ℕ) → k ≡ length inside →
     (k % 2 == 1) ≡ is_odd (count n (mem set))
 odd_inside n full set inside rises full_is inside_is k k_is =
-    let in_n : IsRisingIn n inside = Rattle.counting.proofs.Common.set-narrower 128 n inside rises (λ v h. ((full_is v).0 (and_parts (mem full v) (mem set v) (sym (inside_is v) ∙ h)).0).1) in
+    let in_n : IsRisingIn n inside = Rattle.graph_core.proofs.from_counting.Common.set-narrower 128 n inside rises (λ v h. ((full_is v).0 (and_parts (mem full v) (mem set v) (sym (inside_is v) ∙ h)).0).1) in
     let same : count n (mem inside) ≡ count n (mem set) = count_congr n (mem inside) (mem set) (λ v w. inside_is v ∙ ap (λ b. b && mem set v) ((full_is v).1 w)) in
     odd_remainder k ∙ ap is_odd (k_is ∙ sym (count_mem_length n inside in_n) ∙ same)
 
@@ -44,7 +44,7 @@ module _ (g : Graph) (x : Set) (is : IsGraph g) (m : Set) (p : IsPerfect g none 
       y d = m d && in_cut g x d
 
       three : (n k c : ℕ) → 2 ≤ n → c ≡ n + (k + k) → is_odd c ≡ true → 3 ≤ n
-      three n k c two q o = elim (Rattle.counting.proofs.Common.cases_eq n 2) [
+      three n k c two q o = elim (Rattle.graph_core.proofs.from_counting.Common.cases_eq n 2) [
         | inl e ↦ let twice : c ≡ suc (suc (k + k)) = omega arith in grind (arith, odd-double k, ap is_odd twice)
         | inr e ↦ omega arith
       ]

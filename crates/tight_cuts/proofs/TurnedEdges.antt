@@ -1,13 +1,13 @@
 -- What turned graphs show. Idea: of the edges at u a matching that leaves a set at u has only the
 -- one in the cut, so all its edges keep their ends in the turned graph, and it is perfect there.
-use Rattle.counting.proofs.Common.{◌≡◌, ℕ, zero, suc, List, [], ◌∷◌, length, map, slice_index_or, eq-eqb, ◌<◌, ◌+◌, ◌==◌, ◌&&◌, false, true, refl, sym, ap, ap₂, ◌∙◌, subst, arith, inl, inr, all_in, all_in_true, and_from, both_ways, cases_Bool, cases_eq, cases_lt, count, count_congr, mem, or_left, or_right, Within, Set, none}
+use Rattle.graph_core.proofs.from_counting.Common.{◌≡◌, ℕ, zero, suc, List, [], ◌∷◌, length, map, slice_index_or, eq-eqb, ◌<◌, ◌+◌, ◌==◌, ◌&&◌, false, true, refl, sym, ap, ap₂, ◌∙◌, subst, arith, inl, inr, all_in, all_in_true, and_from, both_ways, cases_Bool, cases_eq, cases_lt, count, count_congr, mem, or_left, or_right, Within, Set, none}
 use Rattle.graph_core.proofs.Common.{Graph, IsGraph, IsMultigraph, degree, first_end, second_end, in_cut, size, Allowed, HasEnds, IsEnd, IsPerfect, adjacent, adjacent_from, adjacent_within, has_ends-from, has_perfect_found, with_edge}
-use Rattle.allowed_edges.proofs.PairSteps.{apart_shared}
-use Rattle.allowed_edges.specs.PairTables.{IsPerfectWith}
-use Rattle.match_core.proofs.MatchingEdges.{edge_of}
-use Rattle.match_core.specs.Common.{IsOf, MatchingValue, are_partners, edges_of}
-use Rattle.match_core.specs.declared.matching.MatchRow.{MatchRow}
-use Rattle.allowed_edges.proofs.ThroughEdges.{one_cut}
+use Rattle.barrier_kit.proofs.from_allowed_edges.PairSteps.{apart_shared}
+use Rattle.barrier_kit.specs.from_allowed_edges.PairTables.{IsPerfectWith}
+use Rattle.barrier_kit.proofs.from_match_core.MatchingEdges.{edge_of}
+use Rattle.barrier_kit.specs.from_match_core.Common.{IsOf, MatchingValue, are_partners, edges_of}
+use Rattle.barrier_kit.specs.from_match_core.declared.matching.MatchRow.{MatchRow}
+use Rattle.barrier_kit.proofs.from_allowed_edges.ThroughEdges.{one_cut}
 use Rattle.tight_cuts.proofs.BesideGraphs.{ends-new, ends-old}
 use Rattle.tight_cuts.specs.Common.{AreEndsPartners, IsTurned, Leaves, LeavesAlone}
 

@@ -1,15 +1,15 @@
 -- Counting how often the matchings of a list hold each edge, row by row.
 -- Idea: the edges of a matching rise, so the edge of a row is in no earlier row.
-use Rattle.counting.proofs.Common.{◌≡◌, ℕ, suc, zero, ◌+◌, ◌≤◌, ◌<◌, true, false, ◌||◌, ◌==◌, List, [], ◌∷◌, length, map, take, refl, sym, ap, ◌∙◌, arith, inl, inr, eq-eqb, ne_eqb, get_or, get_or-set_same, get_or-set_other, rules, Some, slice_get, slice_set, slice_get_read, cases_eq, or_left, or_right, or_from, both_ways, sum_by-cons, Rises, mem_low, rises-from_set, bit_le_one, or_false, bit, mem}
+use Rattle.graph_core.proofs.from_counting.Common.{◌≡◌, ℕ, suc, zero, ◌+◌, ◌≤◌, ◌<◌, true, false, ◌||◌, ◌==◌, List, [], ◌∷◌, length, map, take, refl, sym, ap, ◌∙◌, arith, inl, inr, eq-eqb, ne_eqb, get_or, get_or-set_same, get_or-set_other, rules, Some, slice_get, slice_set, slice_get_read, cases_eq, or_left, or_right, or_from, both_ways, sum_by-cons, Rises, mem_low, rises-from_set, bit_le_one, or_false, bit, mem}
 use Rattle.std.proofs.Math.ListN.{replicate}
-use Rattle.allowed_edges.proofs.Marking.{edges-more}
-use Rattle.allowed_edges.specs.PairTables.{AreGrown, PairsValue, edge_lists}
+use Rattle.barrier_kit.proofs.from_allowed_edges.Marking.{edges-more}
+use Rattle.barrier_kit.specs.from_allowed_edges.PairTables.{AreGrown, PairsValue, edge_lists}
 use Rattle.graph_core.proofs.Common.{Graph, size, IsWithinLimits}
 use Rattle.tight_cuts.proofs.EdgeShores.{total_small}
 use Rattle.tight_cuts.proofs.LeanLists.{grown_length}
-use Rattle.match_core.proofs.MatchingEdges.{edge_of}
-use Rattle.match_core.specs.Common.{KeepsMatching, MatchingValue, edges_of}
-use Rattle.match_core.specs.declared.matching.MatchRow.{MatchRow}
+use Rattle.barrier_kit.proofs.from_match_core.MatchingEdges.{edge_of}
+use Rattle.barrier_kit.specs.from_match_core.Common.{KeepsMatching, MatchingValue, edges_of}
+use Rattle.barrier_kit.specs.from_match_core.declared.matching.MatchRow.{MatchRow}
 use Rattle.tight_cuts.specs.Common.{at_place, weight}
 
 -- the edge of a row is one of the edges

@@ -5,10 +5,10 @@
 -- Used by: tree_check, bench_outcomes, bench_top, example_order.
 use Rattle.std.specs.Prelude.{◌≡◌, ◌≢◌, false, ℕ, Bool, List, [], ◌∷◌, ◌++◌, Option, Some, None, ◌&&◌, ◌||◌, not, map, find, fold, min, max, if◌then◌else◌}
 use Rattle.std.specs.List.{list_any}
-use Rattle.counting.specs.Common.{count, Set, complement, everything, pair_set, each_set, some_set, mem, rising_list, ordered_pairs, IsRisingIn}
+use Rattle.graph_core.specs.from_counting.Common.{count, Set, complement, everything, pair_set, each_set, some_set, mem, rising_list, ordered_pairs, IsRisingIn}
 use Rattle.graph_core.specs.Common.{Graph, size, first_end, second_end, in_cut, IsTight, IsNontrivial, is_tight, is_nontrivial, canonical_shore, is_listed}
 use Rattle.barrier_kit.specs.Common.{barrier_shores}
-use Rattle.separation_kit.specs.Common.{separation_shores}
+use Rattle.quick_kinds.specs.from_separation_kit.Common.{separation_shores}
 
 -- the part of the list that a candidate comes from
 pub data Origin : Type 0 where

@@ -3,7 +3,7 @@
 -- of the graph itself, in the order of its own edges.
 -- Stated by: tight_cuts, decomposer. Used by: tree_check, mcg6_lines, theorems.
 use Rattle.std.specs.Prelude.{◌≡◌, ℕ, false, List, length, map, ◌==◌, if◌then◌else◌}
-use Rattle.counting.specs.Common.{count, complement, mem, IsRisingIn}
+use Rattle.graph_core.specs.from_counting.Common.{count, complement, mem, IsRisingIn}
 use Rattle.graph_core.specs.Common.{Graph, IsNontrivial, quotient, union_of_blocks, IsTightAt, blocks_in}
 use Rattle.tight_cuts.specs.Candidates.{Candidate, candidates}
 

@@ -1,7 +1,7 @@
 -- Vertices that no nontrivial tight cut separates, of a graph and of a partition.
 -- Stated by: tight_cuts, decomposer.
 use Rattle.std.specs.Prelude.{◌≡◌, ℕ, true, List, length}
-use Rattle.counting.specs.Common.{Within, Set, item, mem}
+use Rattle.graph_core.specs.from_counting.Common.{Within, Set, item, mem}
 use Rattle.graph_core.specs.Common.{Graph, IsNontrivial, IsTight, IsTightAt, blocks_in}
 
 -- no nontrivial tight cut separates u from v

@@ -3,11 +3,11 @@
 -- Stated by: tight_cuts.
 use Rattle.std.specs.Prelude.{◌≡◌, ℕ, List, true}
 use Rattle.graph_core.specs.Common.{IsSide, Graph, IsPerfect}
-use Rattle.counting.specs.Common.{mem, none}
-use Rattle.match_core.specs.Common.{IsOf, MatchingValue, edges_of}
-use Rattle.matching_digraph.specs.Digraph.{are_mates}
-use Rattle.matching_digraph.specs.Digraphs.{IsDigraphOf}
-use Rattle.matching_digraph.specs.declared.digraph.Digraph.{Digraph}
+use Rattle.graph_core.specs.from_counting.Common.{mem, none}
+use Rattle.barrier_kit.specs.from_match_core.Common.{IsOf, MatchingValue, edges_of}
+use Rattle.quick_kinds.specs.from_matching_digraph.Digraph.{are_mates}
+use Rattle.quick_kinds.specs.from_matching_digraph.Digraphs.{IsDigraphOf}
+use Rattle.quick_kinds.specs.from_matching_digraph.declared.digraph.Digraph.{Digraph}
 use Rattle.tight_cuts.specs.Candidates.{greater_end, lesser_end}
 
 -- a side of g and a perfect matching of it

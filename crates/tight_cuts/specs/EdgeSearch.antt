@@ -1,10 +1,10 @@
 -- What the search at one edge keeps in rows, and what it answers.
 -- Stated by: tight_cuts.
 use Rattle.std.specs.Prelude.{◌≡◌, ◌≢◌, ℕ, zero, suc, ◌+◌, ◌<◌, ◌≤◌, ◌^◌, ◌⊎◌, false, true, List, [], ◌∷◌, ◌++◌, ◌==◌, Option, Some, None, cond, length, slice_index_or}
-use Rattle.allowed_edges.specs.PairTables.{AreGrown, SettlesEdges}
-use Rattle.match_core.specs.Common.{IsOf, edges_of}
+use Rattle.barrier_kit.specs.from_allowed_edges.PairTables.{AreGrown, SettlesEdges}
+use Rattle.barrier_kit.specs.from_match_core.Common.{IsOf, edges_of}
 use Rattle.tight_cuts.specs.declared.matchings.Matchings.{Matchings}
-use Rattle.counting.specs.Common.{Within, total, Set, none, pair_set, mem}
+use Rattle.graph_core.specs.from_counting.Common.{Within, total, Set, none, pair_set, mem}
 use Rattle.graph_core.specs.Common.{components, IsCovered, Graph, size, first_end, second_end, has_ends, IsPerfect}
 use Rattle.flow_core.specs.Common.{Arc, Net, HasCutWithin, IsLeastCut}
 use Rattle.tight_cuts.specs.Candidates.{lesser_end, greater_end, is_separated, common_shore, first_separated}

@@ -1,7 +1,7 @@
 -- How often the matchings of a list hold an edge, and how often they meet a cut.
 -- Stated by: tight_cuts.
 use Rattle.std.specs.Prelude.{◌≡◌, ◌≢◌, ℕ, true, List, sum_by}
-use Rattle.counting.specs.Common.{bit, Within, Set, mem}
+use Rattle.graph_core.specs.from_counting.Common.{bit, Within, Set, mem}
 use Rattle.graph_core.specs.Common.{Graph, size, in_cut, edges_in_cut, Together}
 
 -- the weight of an edge: how many of the matchings hold it

@@ -2,7 +2,7 @@
 -- node.
 -- Stated by: tight_cuts, theorems.
 use Rattle.std.specs.Prelude.{◌≡◌, ℕ, zero, suc, ◌≢◌, ◌⊎◌, true, false, List, [], ◌∷◌, ◌++◌, ◌==◌, ◌||◌, cond}
-use Rattle.counting.specs.Common.{Within, Set, none, pair_set, mem}
+use Rattle.graph_core.specs.from_counting.Common.{Within, Set, none, pair_set, mem}
 use Rattle.graph_core.specs.Common.{Graph, size, first_end, second_end, IsPerfect, Together, IsTight, joined}
 use Rattle.flow_core.specs.Common.{Arc, Net}
 use Rattle.tight_cuts.specs.PairSums.{weight}

@@ -1,9 +1,9 @@
 -- What shows that at an edge no pair of vertices is separated.
 -- Stated by: tight_cuts.
 use Rattle.std.specs.Prelude.{◌≡◌, ℕ, true, List}
-use Rattle.counting.specs.Common.{Within, Set}
+use Rattle.graph_core.specs.from_counting.Common.{Within, Set}
 use Rattle.graph_core.specs.Common.{Graph, in_cut, size, IsNontrivial, IsTight, Together}
-use Rattle.match_search.specs.Common.{numbers}
+use Rattle.barrier_kit.specs.from_match_search.Common.{numbers}
 
 -- each nontrivial tight set with edge e in its cut holds all of x or nothing of it
 abbrev pub IsOneSided : Graph → ℕ → Set → Type 0

@@ -2,9 +2,9 @@
 -- once.
 -- Stated by: tight_cuts. Used by: tree_check.
 use Rattle.std.specs.Prelude.{◌≡◌, ℕ, ◌<◌, ◌≤◌, ◌==◌, ◌||◌, true}
-use Rattle.counting.specs.Common.{Within, Set, none, mem}
+use Rattle.graph_core.specs.from_counting.Common.{Within, Set, none, mem}
 use Rattle.graph_core.specs.Common.{Graph, edges_in_cut, first_end, in_cut, second_end, size, IsEnd, IsPerfect, Together, IsTight}
-use Rattle.match_core.specs.Common.{IsOf, MatchingValue, RowsValue, are_partners, edges_of}
+use Rattle.barrier_kit.specs.from_match_core.Common.{IsOf, MatchingValue, RowsValue, are_partners, edges_of}
 use Rattle.tight_cuts.specs.declared.tightness.Tightness.{Tightness}
 use Rattle.tight_cuts.specs.declared.tightness.Tightness.TheVariants.{Tight, Crossed}
 

@@ -1,8 +1,8 @@
 //! Pairs of edges that are known not to lie together, so that none is asked twice.
 ghost use Rattle.std.specs.Prelude.{◌≡◌, ◌<◌, true, length, IfOk};
-ghost use Rattle.counting.specs.Common.{Within};
+ghost use Rattle.graph_core.specs.from_counting.Common.{Within};
 ghost use Rattle.graph_core.specs.Common.{size, Together};
-ghost use Rattle.match_search.specs.Common.{numbers};
+ghost use Rattle.barrier_kit.specs.from_match_search.Common.{numbers};
 
 use graph_core::MultiGraph;
 use std::alloc::{AllocError as Memory, Global};

@@ -1,17 +1,17 @@
 //! The candidates at a place, and the first of them, from what the place knows of its quotient.
 ghost use Rattle.std.specs.Prelude.{◌≡◌, [], ◌↔◌, All, IfOk, OnOk, None, Some, length, map};
 ghost use Rattle.std.specs.Option.{option_map};
-ghost use Rattle.counting.specs.Common.{Set};
+ghost use Rattle.graph_core.specs.from_counting.Common.{Set};
 ghost use Rattle.graph_core.specs.Common.{Graph, IsTightAt, blocks_in, IsNontrivial};
 ghost use Rattle.tight_cuts.specs.Common.{AreClustersAt, first_of, IsCandidateAt, candidates_at, lifted_candidate, candidate_of};
 
 use crate::candidate::{Candidate, CandidateList};
 use crate::clusters::Clusters;
 use crate::finder::{first_candidate, listed};
-use contraction::Partition;
-use separation_kit::FirstPairs;
+use quick_kinds::separation_kit::FirstPairs;
 use std::alloc::{AllocError as Memory, Global};
 use tree_core::KnownPlace;
+use tree_core::contraction::Partition;
 
 /// The candidates at a place: at single vertices those of the graph, in the order of its own
 /// edges, else those of the quotient, each shore taken to vertices of the graph, with `inside` and

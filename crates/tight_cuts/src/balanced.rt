@@ -5,12 +5,12 @@
 //! one of the former, so exactly one of its edges leaves the set. In a bipartite covered graph each
 //! tight cut is such a cut (Lovász 1987).
 ghost use Rattle.std.specs.Prelude.{◌≡◌, ℕ, true, false};
-ghost use Rattle.counting.specs.Common.{Within, complement, mem, IsRisingIn};
+ghost use Rattle.graph_core.specs.from_counting.Common.{Within, complement, mem, IsRisingIn};
 ghost use Rattle.graph_core.specs.Common.{connects, size, CutIsTight, IsSide};
 
 use graph_core::MultiGraph;
-use graph_facts::Covered;
-use vset_core::{MOST_VERTICES, VSet};
+use graph_core::vset_core::{MOST_VERTICES, VSet};
+use tree_core::graph_facts::Covered;
 
 /// Whether the graph is bipartite and the vertex set is such a set. Takes no memory. Takes O(m)
 /// steps.

@@ -1,20 +1,20 @@
 //! The search at one edge of a bipartite graph for tight cuts through it, by floods in the
 //! digraph of a perfect matching.
 ghost use Rattle.std.specs.Prelude.{◌≡◌, ◌+◌, true, Some, None, IfOk};
-ghost use Rattle.counting.specs.Common.{Within, mem};
+ghost use Rattle.graph_core.specs.from_counting.Common.{Within, mem};
 ghost use Rattle.graph_core.specs.Common.{size, IsSide};
 ghost use Rattle.tight_cuts.specs.EdgeDigraphs.{AreFloodsOf, IsDigraphAt};
 ghost use Rattle.tight_cuts.specs.EdgeSearch.{IsShoreOfEdge, NoneBefore};
 
 use crate::edge_cuts::EdgeSearch;
 use crate::edge_search::first_lacking;
-use allowed_edges::perfect_with_edge;
+use barrier_kit::allowed_edges::perfect_with_edge;
+use barrier_kit::match_core::Matching;
 use graph_core::MultiGraph;
-use graph_facts::{Bipartite, Covered};
-use match_core::Matching;
-use matching_digraph::Digraph;
+use graph_core::vset_core::VSet;
+use quick_kinds::matching_digraph::Digraph;
 use std::alloc::{AllocError as Memory, Global};
-use vset_core::VSet;
+use tree_core::graph_facts::{Bipartite, Covered};
 
 // The side that has the vertex, by one of the two sides.
 fn side_with(g: &MultiGraph, side: VSet, a: u32) -> VSet

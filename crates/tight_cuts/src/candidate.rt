@@ -1,15 +1,15 @@
 //! Candidates: shores of nontrivial tight cuts, and lists of them.
 ghost use Rattle.std.specs.Prelude.{◌≡◌, ◌<◌, ◌≤◌, ◌++◌, ◌∷◌, [], ◌==◌, All, IfOk, OnOk, OnErr, length, map, slice_get, Some};
 ghost use Rattle.std.specs.List.{list_any};
-ghost use Rattle.counting.specs.Common.{Within, mem, IsRisingIn};
+ghost use Rattle.graph_core.specs.from_counting.Common.{Within, mem, IsRisingIn};
 ghost use Rattle.graph_core.specs.Common.{in_cut, size};
 ghost use Rattle.tight_cuts.specs.Candidates.{candidate_at, cuts};
 ghost use Rattle.tight_cuts.specs.View.{candidate_of, origin_of};
 
+use graph_core::vset_core::{MOST_VERTICES, VSet};
 use graph_core::{MultiGraph, SetList, is_in_cut};
 use std::alloc::{AllocError as Memory, Global};
 use std::marker::Model;
-use vset_core::{MOST_VERTICES, VSet};
 
 /// The part of the list of candidates that a candidate comes from.
 #[derive(Clone, Copy, Debug, PartialEq, Eq, Drop)]

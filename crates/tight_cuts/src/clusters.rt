@@ -7,17 +7,17 @@
 //! Clusters at a place of a derivation have vertices of the whole graph. A shore that is tight at
 //! a place below was tight there, and a nontrivial one was nontrivial. So clusters stay clusters.
 ghost use Rattle.std.specs.Prelude.{◌≡◌, ℕ, ◌+◌, ◌<◌, ◌≤◌, List, cond, true, length, IfOk};
-ghost use Rattle.counting.specs.Common.{Within, item, last_of, mem};
+ghost use Rattle.graph_core.specs.from_counting.Common.{Within, item, last_of, mem};
 ghost use Rattle.graph_core.specs.Common.{Graph, block, first_end, place, quotient, second_end, size, union_of_blocks};
 ghost use Rattle.tree_core.specs.Common.{IsCutAt, kept_at, merged_at};
 ghost use Rattle.tight_cuts.specs.Common.{AreClusters, AreClustersAt, AreUnparted, IsOneSided};
 
-use contraction::{Partition, name_of};
 use graph_core::MultiGraph;
+use graph_core::vset_core::{MOST_VERTICES, VSet};
 use std::alloc::{AllocError as Memory, Global};
 use std::marker::Model;
 use tree_core::KnownPlace;
-use vset_core::{MOST_VERTICES, VSet};
+use tree_core::contraction::{Partition, name_of};
 
 /// Clusters of vertices that no nontrivial tight cut separates, by the cluster of each vertex; a
 /// vertex alone may have an empty set. Contracts see the row of sets.

@@ -1,7 +1,7 @@
 //! What the edges add to the list of candidates, by either search of an edge: least minimum cuts
 //! serve any covered graph (`edge_search`), floods a bipartite one (`bipartite`).
 ghost use Rattle.std.specs.Prelude.{◌≡◌, ℕ, ◌≤◌, IfOk, OnOk};
-ghost use Rattle.counting.specs.Common.{Within};
+ghost use Rattle.graph_core.specs.from_counting.Common.{Within};
 ghost use Rattle.graph_core.specs.Common.{Graph, size};
 ghost use Rattle.tight_cuts.specs.Candidates.{candidates, front_candidates, with_edge_cut};
 ghost use Rattle.tight_cuts.specs.Clusters.{AreClusters};
@@ -10,9 +10,9 @@ ghost use Rattle.tight_cuts.specs.EdgeSearch.{IsShoreOfEdge};
 use crate::candidate::{Candidate, CandidateList, Origin, any_cuts};
 use crate::clusters::Clusters;
 use graph_core::canonical_shore;
-use graph_facts::Covered;
+use graph_core::vset_core::VSet;
 use std::alloc::{AllocError as Memory, Global};
-use vset_core::VSet;
+use tree_core::graph_facts::Covered;
 
 /// A way to search one edge for tight cuts through it.
 pub(crate) trait EdgeSearch {

@@ -7,7 +7,7 @@
 //! first pair is the first x whose S(x) is there and is not everything but b, with the least y that
 //! S(x) lacks (Picard and Queyranne 1980). Mostly there is no such x, and two cuts show it.
 ghost use Rattle.std.specs.Prelude.{◌≡◌, ◌≢◌, ℕ, ◌+◌, ◌<◌, ◌≤◌, ◌==◌, ◌&&◌, ◌↔◌, All, not, true, false, length, Some, None, IfNone, IfOk, IfSome};
-ghost use Rattle.counting.specs.Common.{Within, mem, pair_set};
+ghost use Rattle.graph_core.specs.from_counting.Common.{Within, mem, pair_set};
 ghost use Rattle.tight_cuts.specs.Candidates.{first_separated, greater_end, lesser_end};
 ghost use Rattle.tight_cuts.specs.EdgeSearch.{AreLeadersAt, AreMatchings, IsShoreOfEdge, Leads, NoneBefore, at_place};
 
@@ -18,9 +18,9 @@ use crate::leading::leaders_at;
 use crate::matchings::Matchings;
 use crate::quiet_edges::is_quiet;
 use graph_core::MultiGraph;
-use graph_facts::Covered;
+use graph_core::vset_core::{MOST_VERTICES, VSet};
 use std::alloc::{AllocError as Memory, Global};
-use vset_core::{MOST_VERTICES, VSet};
+use tree_core::graph_facts::Covered;
 
 /// Whether `x` leads a piece of the edge with the ends `a` and `b`.
 pub(crate) fn leads(leaders: &[u32], a: u32, b: u32, x: u32) -> bool

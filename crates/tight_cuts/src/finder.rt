@@ -2,7 +2,7 @@
 ghost use Rattle.std.specs.Prelude.{◌≡◌, ℕ, [], ◌↔◌, ◌≤◌, true, All, IfOk, OnOk, Some, None};
 ghost use Rattle.std.specs.List.{AllPairs, list_any};
 ghost use Rattle.std.specs.Option.{option_map};
-ghost use Rattle.counting.specs.Common.{Within, mem, Set};
+ghost use Rattle.graph_core.specs.from_counting.Common.{Within, mem, Set};
 ghost use Rattle.graph_core.specs.Common.{IsCovered, in_cut, size, HasOnlyTrivialTightCuts, IsNontrivial, IsTight};
 ghost use Rattle.tight_cuts.specs.Common.{AreClusters, AreFloodsOf, IsTightCandidate, ShoresDiffer, candidates, cuts, first_of, first_shore, front_candidates, with_edge_cut, candidate_of};
 
@@ -15,11 +15,11 @@ use crate::front::{first_front_candidate, front_candidates};
 use crate::joining::join_by_floods;
 use crate::matchings::Matchings;
 use graph_core::MultiGraph;
-use graph_facts::{Bipartite, Covered};
+use graph_core::vset_core::VSet;
 use quick_kinds::is_brace;
-use separation_kit::FirstPairs;
+use quick_kinds::separation_kit::FirstPairs;
 use std::alloc::{AllocError as Memory, Global};
-use vset_core::VSet;
+use tree_core::graph_facts::{Bipartite, Covered};
 
 // Whether an edge is in the cut of a candidate or between vertices of one cluster. It then gives
 // nothing.

@@ -1,18 +1,18 @@
 //! The candidates of the first two parts: the cuts of barriers, and those of separations.
 ghost use Rattle.std.specs.Prelude.{◌≡◌, ◌≤◌, IfOk, IfSome, map, slice_get};
 ghost use Rattle.std.specs.Option.{option_map};
-ghost use Rattle.counting.specs.Common.{IsRisingIn};
+ghost use Rattle.graph_core.specs.from_counting.Common.{IsRisingIn};
 ghost use Rattle.graph_core.specs.Common.{IsBicritical};
 ghost use Rattle.barrier_kit.specs.Common.{barrier_cuts};
-ghost use Rattle.separation_kit.specs.Common.{separation_cuts};
+ghost use Rattle.quick_kinds.specs.from_separation_kit.Common.{separation_cuts};
 ghost use Rattle.tight_cuts.specs.Common.{Barrier, Separation, candidate_at, first_of, front_candidates, candidate_of, origin_of};
 
 use crate::candidate::{Candidate, CandidateList, Origin, candidates_of};
 use barrier_kit::{barrier_cuts_of, first_barrier_cut, first_barrier_cut_from};
-use graph_facts::Covered;
-use separation_kit::{FirstPairs, first_separation_cut, separation_cuts};
+use graph_core::vset_core::{MOST_VERTICES, VSet};
+use quick_kinds::separation_kit::{FirstPairs, first_separation_cut, separation_cuts};
 use std::alloc::{AllocError as Memory, Global};
-use vset_core::{MOST_VERTICES, VSet};
+use tree_core::graph_facts::Covered;
 
 // The cuts of barriers, as candidates.
 fn barrier_candidates(alloc: Global, c: &Covered) -> Result<CandidateList, Memory>

@@ -1,6 +1,6 @@
 //! The network of the pieces of an edge in groups, and its least minimum cut.
 ghost use Rattle.std.specs.Prelude.{◌≡◌, ◌≢◌, ℕ, ◌+◌, ◌<◌, ◌≤◌, ◌^◌, ◌++◌, length, IfOk, OnOk};
-ghost use Rattle.counting.specs.Common.{Within, total, mem};
+ghost use Rattle.graph_core.specs.from_counting.Common.{Within, total, mem};
 ghost use Rattle.flow_core.specs.Common.{total_capacity, with_arc};
 ghost use Rattle.graph_core.specs.Common.{first_end, second_end, size};
 ghost use Rattle.tight_cuts.specs.Common.{AreGroups, AreLeadersAt, AreMatchings, LeadsBeyond, IsCommonShore, IsCutOfGroups, Leads, arc_between, arcs_by, at_place, group_net, row_group, group_of};
@@ -8,11 +8,11 @@ ghost use Rattle.tight_cuts.specs.Common.{AreGroups, AreLeadersAt, AreMatchings,
 use crate::matchings::Matchings;
 use crate::pieces::{Weights, weights_of};
 use crate::tightness::crossing;
-use allowed_edges::list_new;
+use barrier_kit::allowed_edges::list_new;
 use flow_core::{CutAnswer, Net, min_cut};
 use graph_core::MultiGraph;
+use graph_core::vset_core::{MOST_VERTICES, VSet};
 use std::alloc::{AllocError as Memory, Global};
-use vset_core::{MOST_VERTICES, VSet};
 
 // No more matchings are in a list in which each holds an edge, or two, that no earlier one holds.
 const MOST_LISTED: u32 = 4_194_304;

@@ -5,7 +5,7 @@
 //! the tight sets with a and without b are a alone and everything but b: no pair is separated. The
 //! former is known where no pair with the first vertex x is separated, so one cut is left to make.
 ghost use Rattle.std.specs.Prelude.{◌≡◌, ◌+◌, true, IfOk, None};
-ghost use Rattle.counting.specs.Common.{Within};
+ghost use Rattle.graph_core.specs.from_counting.Common.{Within};
 ghost use Rattle.graph_core.specs.Common.{size};
 ghost use Rattle.tight_cuts.specs.Common.{first_separated, greater_end, lesser_end, AreLeadersAt, AreMatchings, AreWhole, Leads, NoneBefore};
 

@@ -5,19 +5,19 @@
 //! but the ends of e with one another, there is no such cut. Two adjacent vertices are joined if
 //! they are partners in the graph without the ends of e; one search tells the partners of a vertex.
 ghost use Rattle.std.specs.Prelude.{◌≡◌, true, IfOk, OnOk, IfSome, None};
-ghost use Rattle.counting.specs.Common.{Within, mem};
+ghost use Rattle.graph_core.specs.from_counting.Common.{Within, mem};
 ghost use Rattle.graph_core.specs.Common.{size};
 ghost use Rattle.tight_cuts.specs.Common.{first_separated, AreClusters, AreRowsWithout, IsOneSided};
 
 use crate::candidate::{CandidateList, any_cuts};
 use crate::clusters::Clusters;
 use crate::quiet_edges::without_ends;
-use allowed_edges::perfect_with_edge;
+use barrier_kit::allowed_edges::perfect_with_edge;
+use barrier_kit::match_core::LazyPartners;
 use graph_core::MultiGraph;
-use graph_facts::Covered;
-use match_core::LazyPartners;
+use graph_core::vset_core::VSet;
 use std::alloc::{AllocError as Memory, Global};
-use vset_core::VSet;
+use tree_core::graph_facts::Covered;
 
 /// How many rows of partners may bring nothing before no more are searched for one edge.
 const MOST_IDLE: u32 = 4;

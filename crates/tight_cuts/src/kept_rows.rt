@@ -1,13 +1,13 @@
 //! Rows of partners without the ends of an edge, kept from one shore to the next.
 ghost use Rattle.std.specs.Prelude.{◌≡◌, ◌<◌, ℕ, true, Some, IfOk, length, slice_get};
-ghost use Rattle.counting.specs.Common.{Within, mem};
-ghost use Rattle.match_core.specs.Common.{IsOf, are_partners};
+ghost use Rattle.graph_core.specs.from_counting.Common.{Within, mem};
+ghost use Rattle.barrier_kit.specs.from_match_core.Common.{IsOf, are_partners};
 
+use barrier_kit::match_core::{LazyPartners, Matching};
 use graph_core::MultiGraph;
-use match_core::{LazyPartners, Matching};
+use graph_core::vset_core::VSet;
 use std::alloc::{AllocError as Memory, Global};
 use std::marker::Model;
-use vset_core::VSet;
 
 /// For so many sets rows are kept; then they make room for others.
 const MOST_KEPT: usize = 128;

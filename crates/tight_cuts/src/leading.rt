@@ -1,16 +1,16 @@
 //! The vertices that lead the pieces of an edge.
 ghost use Rattle.std.specs.Prelude.{◌≡◌, ℕ, ◌+◌, length, IfOk};
-ghost use Rattle.counting.specs.Common.{Within, pair_set};
+ghost use Rattle.graph_core.specs.from_counting.Common.{Within, pair_set};
 ghost use Rattle.graph_core.specs.Common.{components, size};
 ghost use Rattle.tight_cuts.specs.Common.{greater_end, lesser_end, AreLeadersAt, AreMatchings, at_place, leader};
 
 use crate::matchings::Matchings;
 use crate::pieces::graph_beside;
-use allowed_edges::list_with_edge;
+use barrier_kit::allowed_edges::list_with_edge;
 use graph_core::MultiGraph;
-use graph_facts::Covered;
+use graph_core::vset_core::{MOST_VERTICES, VSet};
 use std::alloc::{AllocError as Memory, Global};
-use vset_core::{MOST_VERTICES, VSet};
+use tree_core::graph_facts::Covered;
 
 // The least vertex of the first piece that holds the vertex, and the vertex itself if none does.
 fn leader_in(pieces: &[VSet], v: u32) -> u32

@@ -36,8 +36,13 @@ mod quick_tightness;
 mod quiet_edges;
 mod tightness;
 
+// Passed on to the crates above.
 pub use at_places::{candidates_at_place, candidates_from_clusters, first_at_place};
+pub use barrier_kit;
 pub use candidate::{Candidate, CandidateList, Origin};
 pub use clusters::Clusters;
 pub use finder::{candidates, find_any, first_candidate, first_cut};
+pub use quick_kinds::separation_kit;
 pub use tightness::{Tightness, is_tight, tightness_in};
+pub use tree_core;
+pub use tree_core::graph_facts;

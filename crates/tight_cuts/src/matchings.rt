@@ -5,10 +5,10 @@ ghost use Rattle.tight_cuts.specs.Common.{AreMatchings};
 
 use crate::apart_edges::ApartEdges;
 use crate::kept_rows::KeptRows;
-use allowed_edges::{PairTable, no_pairs};
-use graph_facts::Covered;
-use match_core::Matching;
+use barrier_kit::allowed_edges::{PairTable, no_pairs};
+use barrier_kit::match_core::Matching;
 use std::alloc::{AllocError as Memory, Global};
+use tree_core::graph_facts::Covered;
 
 /// A perfect matching, a table in which perfect matchings are listed as they are needed, pairs of
 /// edges that no perfect matching contains, and the rows of partners that were asked for.

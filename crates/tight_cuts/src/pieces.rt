@@ -1,15 +1,15 @@
 //! What the search at an edge stands on: how often the listed matchings hold each edge, and the
 //! graph of the edges that they hold together with one edge.
 ghost use Rattle.std.specs.Prelude.{◌≡◌, ℕ, ◌+◌, ◌<◌, ◌≤◌, ◌-◌, ◌^◌, ◌↔◌, true, All, IfOk, length, map};
-ghost use Rattle.counting.specs.Common.{Within, bit, mem};
+ghost use Rattle.graph_core.specs.from_counting.Common.{Within, bit, mem};
 ghost use Rattle.graph_core.specs.Common.{size};
-ghost use Rattle.match_core.specs.Common.{edges_of};
-ghost use Rattle.allowed_edges.specs.PairTables.{SettlesEdges, edge_lists, holds_both};
+ghost use Rattle.barrier_kit.specs.from_match_core.Common.{edges_of};
+ghost use Rattle.barrier_kit.specs.from_allowed_edges.PairTables.{SettlesEdges, edge_lists, holds_both};
 ghost use Rattle.tight_cuts.specs.Common.{AreWeights, at_place, weight, IsBeside};
 
-use allowed_edges::PairTable;
+use barrier_kit::allowed_edges::PairTable;
+use barrier_kit::match_core::Matching;
 use graph_core::MultiGraph;
-use match_core::Matching;
 use std::alloc::{AllocError as Memory, Global};
 
 /// How many matchings of a list hold each edge, by edge number, and how many matchings it has.

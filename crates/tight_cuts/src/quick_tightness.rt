@@ -8,17 +8,17 @@
 //! the cut has. If the set is odd, such a matching has a third edge in the cut, so the last two
 //! vertices at which edges leave the set need not be asked.
 ghost use Rattle.std.specs.Prelude.{◌≡◌, ◌≢◌, ℕ, ◌<◌, [], true, false, IfOk, IfNone, IfSome};
-ghost use Rattle.counting.specs.Common.{Within, count, is_odd, none, mem};
+ghost use Rattle.graph_core.specs.from_counting.Common.{Within, count, is_odd, none, mem};
 ghost use Rattle.graph_core.specs.Common.{first_end, in_cut, second_end, size, IsEnd, IsPerfect};
-ghost use Rattle.match_core.specs.Common.{IsOf, edges_of};
-ghost use Rattle.allowed_edges.specs.PairTables.{IsPerfectWith};
+ghost use Rattle.barrier_kit.specs.from_match_core.Common.{IsOf, edges_of};
+ghost use Rattle.barrier_kit.specs.from_allowed_edges.PairTables.{IsPerfectWith};
 ghost use Rattle.tight_cuts.specs.Common.{AreEndsPartners, HasFewLater, IsTurned, Leaves, LeavesAlone, NoTwoTogether};
 
-use allowed_edges::perfect_with_edge;
+use barrier_kit::allowed_edges::perfect_with_edge;
+use barrier_kit::match_core::{LazyPartners, Matching};
+use graph_core::vset_core::VSet;
 use graph_core::{Ends, MultiGraph, is_in_cut};
-use match_core::{LazyPartners, Matching};
 use std::alloc::{AllocError as Memory, Global};
-use vset_core::VSet;
 
 /// Whether the quick test shows that no perfect matching has two edges in the cut of the set. The
 /// fewer vertices the set has, the faster it is: at most one augmentation for each of them, and one

@@ -5,18 +5,18 @@
 //! one side, and no two of them are separated at e: the edge is quiet. Mostly a few perfect
 //! matchings show it, and each of them serves all edges that it holds.
 ghost use Rattle.std.specs.Prelude.{◌≡◌, ◌≢◌, ℕ, ◌<◌, true, false, length, IfOk, None};
-ghost use Rattle.counting.specs.Common.{Within, mem};
+ghost use Rattle.graph_core.specs.from_counting.Common.{Within, mem};
 ghost use Rattle.graph_core.specs.Common.{first_end, second_end, size};
-ghost use Rattle.allowed_edges.specs.Leaving.{share_end};
-ghost use Rattle.allowed_edges.specs.PairTables.{IsPerfectWith, SettlesEdges};
+ghost use Rattle.barrier_kit.specs.from_allowed_edges.Leaving.{share_end};
+ghost use Rattle.barrier_kit.specs.from_allowed_edges.PairTables.{IsPerfectWith, SettlesEdges};
 ghost use Rattle.tight_cuts.specs.Common.{first_separated, AreMatchings, IsOneSided};
 
 use crate::matchings::Matchings;
-use allowed_edges::{PairTable, base_with_edge, seek_pair, share_end};
+use barrier_kit::allowed_edges::{PairTable, base_with_edge, seek_pair, share_end};
+use barrier_kit::match_core::Matching;
+use graph_core::vset_core::VSet;
 use graph_core::{MultiGraph, is_in_cut};
-use match_core::Matching;
 use std::alloc::{AllocError as Memory, Global};
-use vset_core::VSet;
 
 /// How many edges may be refused before no more are sought for one edge.
 const MOST_REFUSED: u32 = 2;

@@ -1,21 +1,21 @@
 //! Whether an odd cut is tight.
 ghost use Rattle.std.specs.Prelude.{◌≡◌, ℕ, ◌+◌, ◌<◌, ◌||◌, ◌&&◌, ◌==◌, ◌⊎◌, not, true, false, length, ◌↔◌, Some, None, IfOk};
-ghost use Rattle.counting.specs.Common.{Within, is_odd, none, mem, IsRisingIn};
+ghost use Rattle.graph_core.specs.from_counting.Common.{Within, is_odd, none, mem, IsRisingIn};
 ghost use Rattle.graph_core.specs.Common.{IsCovered, first_end, in_cut, second_end, size, IsPerfect, Together};
-ghost use Rattle.match_core.specs.Common.{IsOf, edges_of};
-ghost use Rattle.allowed_edges.specs.Leaving.{share_end};
-ghost use Rattle.allowed_edges.specs.PairTables.{IsPerfectWith};
+ghost use Rattle.barrier_kit.specs.from_match_core.Common.{IsOf, edges_of};
+ghost use Rattle.barrier_kit.specs.from_allowed_edges.Leaving.{share_end};
+ghost use Rattle.barrier_kit.specs.from_allowed_edges.PairTables.{IsPerfectWith};
 ghost use Rattle.tight_cuts.specs.Common.{CrossesTwice, IsTightness, NoLaterWith};
 
 use crate::balanced::is_balanced;
 use crate::kept_rows::KeptRows;
 use crate::quick_tightness::is_uncrossed;
-use allowed_edges::{perfect_with_edge, perfect_with_pair, share_end};
+use barrier_kit::allowed_edges::{perfect_with_edge, perfect_with_pair, share_end};
+use barrier_kit::match_core::{Matching, perfect_without};
+use graph_core::vset_core::VSet;
 use graph_core::{Ends, MultiGraph, is_in_cut};
-use graph_facts::Covered;
-use match_core::{Matching, perfect_without};
 use std::alloc::{AllocError as Memory, Global};
-use vset_core::VSet;
+use tree_core::graph_facts::Covered;
 
 /// Whether a cut is tight (Lovász 1987).
 #[derive(Drop)]

@@ -1,16 +1,16 @@
 -- What the rules of a cut show. The test of tightness is made on the quotient, at the places of
 -- the blocks in the shore: a cut that is tight there is tight at the partition, and a perfect
 -- matching with two edges in it is lifted to one at the partition.
-use Rattle.counting.proofs.Common.{◌≡◌, ◌≢◌, ◌⊎◌, ◌↔◌, IsTrue, ◌%◌, ◌==◌, Option, Some, unwrap_or, ℕ, zero, suc, ◌+◌, ◌*◌, ◌-◌, ◌≤◌, Bool, true, false, not, ◌&&◌, ◌||◌, List, length, refl, sym, ap, ap₂, ◌∙◌, arith, subst, inl, inr, list_all, both_ways, cases_Bool, count_complement, count_congr, count_mem_length, is_odd_remainder, odd-double, length-rising_list, mem-outside, mem-rising_list, rising_list-rises, set-wider, Within, count, is_odd, IsRisingIn, mem, rising_list, Set, none}
-use Rattle.contraction.proofs.BlockUnions.{in_or_apart, test-from_union, union-from_test}
-use Rattle.contraction.proofs.LiftedMatchings.{lifted-perfect, perfect-congr}
-use Rattle.contraction.proofs.ProjectedMatchings.{lifted-cut}
-use Rattle.contraction.proofs.QuotientLaws.{covered_down, tight_at_down}
-use Rattle.contraction.specs.Partition.{IsUnionAt, PartitionValue}
+use Rattle.graph_core.proofs.from_counting.Common.{◌≡◌, ◌≢◌, ◌⊎◌, ◌↔◌, IsTrue, ◌%◌, ◌==◌, Option, Some, unwrap_or, ℕ, zero, suc, ◌+◌, ◌*◌, ◌-◌, ◌≤◌, Bool, true, false, not, ◌&&◌, ◌||◌, List, length, refl, sym, ap, ap₂, ◌∙◌, arith, subst, inl, inr, list_all, both_ways, cases_Bool, count_complement, count_congr, count_mem_length, is_odd_remainder, odd-double, length-rising_list, mem-outside, mem-rising_list, rising_list-rises, set-wider, Within, count, is_odd, IsRisingIn, mem, rising_list, Set, none}
+use Rattle.move_laws.proofs.from_contraction.BlockUnions.{in_or_apart, test-from_union, union-from_test}
+use Rattle.move_laws.proofs.from_contraction.LiftedMatchings.{lifted-perfect, perfect-congr}
+use Rattle.move_laws.proofs.from_contraction.ProjectedMatchings.{lifted-cut}
+use Rattle.move_laws.proofs.from_contraction.QuotientLaws.{covered_down, tight_at_down}
+use Rattle.move_laws.specs.from_contraction.Partition.{IsUnionAt, PartitionValue}
 use Rattle.graph_core.proofs.Common.{blocks-singles, length-singles, singles-tight, contracted-graph, contracted-order, contracted-size, tight_from_cut, covered_perfect, tight_or_not, parity, quotient_graph, quotient-order, tight-same, edges-in-cut-at, IsCovered, Graph, IsGraph, edges_in_cut, first_end, in_cut, inside, second_end, size, IsPartition, IsPerfect, AreBlocks, contracted, lifted, quotient, singles, IsTightAt, IsUnion, block_count, blocks_in, IsNontrivial, IsTight}
 use Rattle.match_core.specs.Common.{MatchingValue, edges_of}
 use Rattle.tight_cuts.specs.Common.{CrossesTwice}
-use Rattle.tree_core.proofs.Common.{as_many-singles, IsCutAt}
+use Rattle.move_laws.proofs.from_tree_core.Common.{as_many-singles, IsCutAt}
 use Rattle.tree_check.specs.Common.{why_of, BreaksCut, CrossesAt, Why, not_blocks, even, trivial, not_tight, not_leaf, without_matching}
 use Rattle.tree_check.specs.declared.judgement.Why.{Why as StoredWhy}
 

@@ -1,9 +1,9 @@
 -- The law of the first refusal, by induction down the tree: a derivation has none, two refusals
 -- of a tree agree, and a tree that is not a derivation has one. Below a kept cut the partitions are
 -- partitions again and their quotients are matching covered.
-use Rattle.counting.proofs.Common.{◌≡◌, ◌⊎◌, ℕ, ◌+◌, List, refl, sym, ap, ◌∙◌, inl, inr, arith, mem}
+use Rattle.graph_core.proofs.from_counting.Common.{◌≡◌, ◌⊎◌, ℕ, ◌+◌, List, refl, sym, ap, ◌∙◌, inl, inr, arith, mem}
 use Rattle.graph_core.proofs.Common.{singles-partition, IsCovered, Graph, IsGraph, IsPartition, singles, quotient}
-use Rattle.tree_core.proofs.Common.{kept-covers, kept-partition, merged-covers, merged-partition, root-covered, IsDerivation, IsDerivationAt, kept_at, merged_at, Shape, leaf, cut, node_count}
+use Rattle.move_laws.proofs.from_tree_core.Common.{kept-covers, kept-partition, merged-covers, merged-partition, root-covered, IsDerivation, IsDerivationAt, kept_at, merged_at, Shape, leaf, cut, node_count}
 use Rattle.tree_check.proofs.CutRules.{broken-not_cut, broken-once, cut-or_broken}
 use Rattle.tree_check.proofs.LeafRules.{broken-not_leaf, leaf-once, leaf-or_broken}
 use Rattle.tree_check.specs.Common.{HasShores, IsRefused, IsRefusedAt, Why, without_matching}

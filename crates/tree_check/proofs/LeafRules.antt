@@ -1,10 +1,10 @@
 -- What the rule of a leaf shows: there is no candidate at a partition if and only if no nontrivial
 -- shore is tight at it.
-use Rattle.counting.proofs.Common.{◌≡◌, ◌⊎◌, ℕ, List, [], ◌∷◌, length, Option, Some, None, unwrap_or, refl, sym, ap, ◌∙◌, arith, inl, inr, Set}
+use Rattle.graph_core.proofs.from_counting.Common.{◌≡◌, ◌⊎◌, ℕ, List, [], ◌∷◌, length, Option, Some, None, unwrap_or, refl, sym, ap, ◌∙◌, arith, inl, inr, Set}
 use Rattle.graph_core.proofs.Common.{IsCovered, Graph, IsGraph, IsPartition, quotient, IsTightAt, blocks_in, IsNontrivial}
 use Rattle.tight_cuts.proofs.PartitionCandidates.{none-at}
 use Rattle.tight_cuts.specs.Common.{Candidate, first_shore, candidates_at}
-use Rattle.tree_core.proofs.Common.{IsLeafAt}
+use Rattle.move_laws.proofs.from_tree_core.Common.{IsLeafAt}
 use Rattle.tree_check.specs.Common.{BreaksLeaf, Why, not_blocks, even, trivial, not_tight, not_leaf, without_matching}
 
 module _ (g : Graph) (p : List (List ℕ)) (is : IsGraph g) (pp : IsPartition g.order p) (covered : IsCovered (quotient g p)) where

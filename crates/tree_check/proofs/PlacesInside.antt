@@ -1,7 +1,7 @@
 -- The places of the blocks in a shore, found block by block.
 -- Idea: after i blocks the places found are those of 1 to i whose blocks lie in the shore.
-use Rattle.counting.proofs.Common.{◌≡◌, ◌<◌, ◌≤◌, ℕ, ◌+◌, true, false, ◌||◌, ◌==◌, List, length, arith, eq-eqb, ne_eqb, slice_get, Some, cases_eq, false_from_ne_true, or_right, get_or_from_slice_get, list-from_test, set-narrower, or_false, Within, IsRisingIn, is_subset, mem, rising_list}
-use Rattle.contraction.proofs.BlockLists.{length-partition}
+use Rattle.graph_core.proofs.from_counting.Common.{◌≡◌, ◌<◌, ◌≤◌, ℕ, ◌+◌, true, false, ◌||◌, ◌==◌, List, length, arith, eq-eqb, ne_eqb, slice_get, Some, cases_eq, false_from_ne_true, or_right, get_or_from_slice_get, list-from_test, set-narrower, or_false, Within, IsRisingIn, is_subset, mem, rising_list}
+use Rattle.move_laws.proofs.from_contraction.BlockLists.{length-partition}
 use Rattle.graph_core.proofs.Common.{IsPartition, blocks_in}
 
 -- the next place is that of a vertex

@@ -1,13 +1,13 @@
 -- A Switch at the end of its path. The two sets are blocks if they are unions that count one block
 -- each, and then the law of the Switch says that its result is a derivation if its shore is a cut.
-use Rattle.counting.proofs.Common.{◌≡◌, ℕ, List, [], ◌∷◌, length, ◌∙◌, arith, only_one, Set}
-use Rattle.contraction.proofs.QuotientLaws.{covered_down}
+use Rattle.graph_core.proofs.from_counting.Common.{◌≡◌, ℕ, List, [], ◌∷◌, length, ◌∙◌, arith, only_one, Set}
+use Rattle.move_laws.proofs.from_contraction.QuotientLaws.{covered_down}
 use Rattle.graph_core.proofs.Common.{at_place, place_in, IsCovered, Graph, IsGraph, AreBlocks, IsPartition, place, quotient, IsUnion, block_count, blocks_in}
 use Rattle.move_laws.proofs.CarriedCuts.{some_of}
 use Rattle.move_laws.proofs.MoveParts.{switch_derives_law}
-use Rattle.tree_core.proofs.Common.{IsCutAt, IsDerivationAt, IsBlockOf, kept_at, merged_at, Shape, cut}
-use Rattle.tree_core.specs.declared.path.Side.{Side}
-use Rattle.tree_core.specs.declared.path.Side.TheVariants.{Kept, Merged}
+use Rattle.move_laws.proofs.from_tree_core.Common.{IsCutAt, IsDerivationAt, IsBlockOf, kept_at, merged_at, Shape, cut}
+use Rattle.move_laws.specs.from_tree_core.declared.path.Side.{Side}
+use Rattle.move_laws.specs.from_tree_core.declared.path.Side.TheVariants.{Kept, Merged}
 use Rattle.tree_check.specs.Common.{IsBlock, IsSwitchOfDerivation}
 
 -- a union of blocks that counts one is a block

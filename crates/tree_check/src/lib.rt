@@ -24,7 +24,11 @@ mod rules;
 mod scan;
 mod sound_moves;
 
+// Passed on to the crates above.
 pub use judgement::{Judgement, Scanned, Why};
 pub use known_places::KnownPlaces;
+pub use move_laws::tree_core;
 pub use replaying::{Replayed, replay, replay_covered};
 pub use scan::{check, check_covered, scan_covered, scan_known};
+pub use tight_cuts;
+pub use tight_cuts::{barrier_kit, separation_kit};

@@ -1,6 +1,6 @@
 -- The kinds of the leaves of two lists, one after the other, and of one leaf. What stands at a
 -- place of the first list stays, and what stands after it comes from the second.
-use Rattle.counting.proofs.Common.{◌≡◌, ℕ, ◌-◌, List, [], ◌∷◌, ◌++◌, length, ap, ◌∙◌, inl, inr, arith, get_or-append, get_or-append_right, cases_lt, length-append}
+use Rattle.graph_core.proofs.from_counting.Common.{◌≡◌, ℕ, ◌-◌, List, [], ◌∷◌, ◌++◌, length, ap, ◌∙◌, inl, inr, arith, get_or-append, get_or-append_right, cases_lt, length-append}
 use Rattle.graph_core.proofs.Common.{Graph}
 use Rattle.tree_core.specs.Common.{AreLeafKinds, IsLeafKind}
 use Rattle.tree_core.specs.declared.tallies.LeafKind.{LeafKind}

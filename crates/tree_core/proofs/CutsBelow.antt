@@ -1,7 +1,7 @@
 -- What stands below a cut: both partitions are partitions, their quotients are matching covered
 -- where that of the node is, and each has one block for the merged side and the blocks of the
 -- other side. So a tree of cuts has few leaves, by induction.
-use Rattle.counting.proofs.Common.{All-append, ◌≡◌, ℕ, zero, suc, ◌+◌, ◌*◌, ◌≤◌, List, length, All, refl, sym, ◌∙◌, arith, count_congr, count_complement, mem-within, member-of_set, true_all_in, count, mem, IsRisingIn, complement, everything}
+use Rattle.graph_core.proofs.from_counting.Common.{All-append, ◌≡◌, ℕ, zero, suc, ◌+◌, ◌*◌, ◌≤◌, List, length, All, refl, sym, ◌∙◌, arith, count_congr, count_complement, mem-within, member-of_set, true_all_in, count, mem, IsRisingIn, complement, everything}
 use Rattle.graph_core.proofs.Common.{block_count_congr, block_count_rest, union_rest, complement_of-rises, mem-complement_of, block_count_around, merge_of, complement-tight, shore-some, contracted-singles, length-singles, singles-partition, IsCovered, Graph, IsGraph, IsPartition, block, complement_of, merged, singles, quotient, IsTightAt, block_count, blocks_in}
 use Rattle.contraction.proofs.MergedQuotients.{merged-covered}
 use Rattle.contraction.proofs.QuotientLaws.{covered_up}

@@ -1,7 +1,7 @@
 -- Each shore of a derivation is a nontrivial tight shore of the graph itself. What is tight at a
 -- merged partition was tight before, so down the tree each tight shore is tight in the graph; and
 -- a union of blocks has at least as many vertices as blocks.
-use Rattle.counting.proofs.Common.{ℕ, ◌≤◌, ◌&&◌, ◌==◌, List, [], ◌∷◌, ◌++◌, length, All, refl, sym, ap, ◌∙◌, arith, eq-eqb, eqb-true, All-append, and_from, and_parts, count_congr, count_mono, count, mem, Set}
+use Rattle.graph_core.proofs.from_counting.Common.{ℕ, ◌≤◌, ◌&&◌, ◌==◌, List, [], ◌∷◌, ◌++◌, length, All, refl, sym, ap, ◌∙◌, arith, eq-eqb, eqb-true, All-append, and_from, and_parts, count_congr, count_mono, count, mem, Set}
 use Rattle.graph_core.proofs.Common.{at_rep, at_place, block_count_rest, count_over, rep, rep_in, rep_place, union_rest, place_in, complement_of-rises, complement-tight, blocks-singles, singles-tight, tight-singles, length-singles, singles-partition, IsCovered, Graph, IsGraph, AreBlocks, IsPartition, complement_of, place, singles, quotient, IsTightAt, IsUnion, block_count, blocks_in, IsNontrivial, IsTight}
 use Rattle.contraction.proofs.MergedQuotients.{tight-before}
 use Rattle.tree_core.proofs.CutsBelow.{kept-covers, kept-partition, merged-covers, merged-partition, root-covered}

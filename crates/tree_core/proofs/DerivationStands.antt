@@ -1,7 +1,7 @@
 -- The shores of a derivation stand where they should: at each node the blocks are a partition, so
 -- that a nontrivial shore is a nonempty union of blocks, and merging it or its complement leaves
 -- a partition again. By induction down the tree.
-use Rattle.counting.proofs.Common.{◌≡◌, ℕ, ◌-◌, ◌<◌, List, [], ◌∷◌, length, All, arith, refl, ◌∙◌, Within, bit, count, none, mem, IsRisingIn, mem-within, member-of_set, count_congr, total_none}
+use Rattle.graph_core.proofs.from_counting.Common.{◌≡◌, ℕ, ◌-◌, ◌<◌, List, [], ◌∷◌, length, All, arith, refl, ◌∙◌, Within, bit, count, none, mem, IsRisingIn, mem-within, member-of_set, count_congr, total_none}
 use Rattle.graph_core.proofs.Common.{Graph, IsPartition, complement_of, merged, singles, IsUnion, blocks_in, in_union, complement_of-rises, union-complement_of, merged_blocks, singles-partition}
 use Rattle.tree_core.specs.Common.{Shape, leaf, cut, Fits, IsCutAt, IsDerivationAt, IsDerivation, kept_at, merged_at, StandsAt}
 use Rattle.tree_core.proofs.Shores.{below-without_greatest, complement-nonempty}

@@ -1,7 +1,7 @@
 -- A derivation of a graph within the limits has at most 127 nodes, since there are few leaves
 -- where the graph has at least four vertices, and no cut where it has fewer. Its leaves are
 -- partitions of the graph's vertices.
-use Rattle.counting.proofs.Common.{◌≡◌, ℕ, ◌≤◌, ◌<◌, List, [], ◌∷◌, length, map, ap, refl, arith, suc, cases_lt, count_complement, mem}
+use Rattle.graph_core.proofs.from_counting.Common.{◌≡◌, ℕ, ◌≤◌, ◌<◌, List, [], ◌∷◌, length, map, ap, refl, arith, suc, cases_lt, count_complement, mem}
 use Rattle.graph_core.proofs.Common.{Graph, IsGraph, singles, blocks_in, length-singles}
 use Rattle.contraction.specs.Partition.{PartitionValue}
 use Rattle.tree_core.specs.Common.{IsDerivation, IsDerivationAt, leaves, partitions_of, Shape, leaf, cut, node_count}

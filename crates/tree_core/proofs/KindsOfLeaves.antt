@@ -1,6 +1,6 @@
 -- The kinds of the leaves of a list grow by that of one leaf, and at the end are those of all.
 -- What stands at the places before stays where an item is appended; the new one comes next.
-use Rattle.counting.proofs.Common.{◌≡◌, ℕ, ◌+◌, ◌-◌, List, [], ◌∷◌, ◌++◌, length, map, ap, ◌∙◌, get_or, slice_get, Some, arith, option_map, get_or-append, slice_get-map, get_or-append_seam, cases_lt, length-append, length-map, get_or_from_slice_get, Within}
+use Rattle.graph_core.proofs.from_counting.Common.{◌≡◌, ℕ, ◌+◌, ◌-◌, List, [], ◌∷◌, ◌++◌, length, map, ap, ◌∙◌, get_or, slice_get, Some, arith, option_map, get_or-append, slice_get-map, get_or-append_seam, cases_lt, length-append, length-map, get_or_from_slice_get, Within}
 use Rattle.contraction.specs.Partition.{PartitionValue}
 use Rattle.graph_core.proofs.Common.{Graph}
 use Rattle.tree_core.specs.Common.{leaf_at, AreLeafKinds, IsLeafKind, kind_at}

@@ -1,6 +1,6 @@
 -- Leaves as places of one graph, and their kinds one after the other. The place of a leaf has its
 -- partition, so what is known of the place is known of the partition.
-use Rattle.counting.proofs.Common.{◌≡◌, ℕ, ◌+◌, ◌<◌, List, [], ◌∷◌, ◌++◌, length, map, take, get_or, subst, arith, take_all, take_more, get_or-map, length-map}
+use Rattle.graph_core.proofs.from_counting.Common.{◌≡◌, ℕ, ◌+◌, ◌<◌, List, [], ◌∷◌, ◌++◌, length, map, take, get_or, subst, arith, take_all, take_more, get_or-map, length-map}
 use Rattle.graph_core.proofs.Common.{Graph}
 use Rattle.tree_core.specs.Common.{AreLeafKinds, IsLeafKind, PlaceValue, place_of}
 use Rattle.tree_core.specs.declared.tallies.LeafKind.{LeafKind}

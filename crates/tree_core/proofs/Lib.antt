@@ -15,3 +15,5 @@ pub mod SingleVertices
 pub mod QuotientSides
 pub mod SeenGraphs
 pub mod Common
+-- Passed on to the crates above: from_NAME is all that the crate NAME has in its folder of this name.
+pub use Rattle.contraction.proofs as from_contraction

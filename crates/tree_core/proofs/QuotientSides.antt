@@ -1,7 +1,7 @@
 -- The sides of a quotient: a set of blocks has each edge of the quotient in its cut exactly when it
 -- separates each two adjacent blocks. So the quotient at the single vertices is bipartite exactly
 -- when the graph is.
-use Rattle.counting.proofs.Common.{Bool, List, ap, arith, length, ne_eqb, not, subst, sym, true, ℕ, ◌&&◌, ◌<◌, ◌==◌, ◌||◌, ◌≡◌, ◌↔◌, and_from, and_parts, cases_order, nat_tests, some_true, true_some, Within, Set, some}
+use Rattle.graph_core.proofs.from_counting.Common.{Bool, List, ap, arith, length, ne_eqb, not, subst, sym, true, ℕ, ◌&&◌, ◌<◌, ◌==◌, ◌||◌, ◌≡◌, ◌↔◌, and_from, and_parts, cases_order, nat_tests, some_true, true_some, Within, Set, some}
 use Rattle.graph_core.proofs.Common.{edge_of_pair, quotient_edge, contracted-singles, length-singles, has_ends-cases, has_ends-own, Graph, IsBipartite, IsMultigraph, IsPartition, first_end, has_ends, in_cut, second_end, size, contracted, singles, blocks_adjacent, quotient}
 use Rattle.tree_core.proofs.SingleVertices.{as_many-singles}
 

@@ -1,6 +1,6 @@
 -- Rotate at the end of a path, and the test of two sets with no common vertex.
 -- Idea: a path that is not empty is split before its last step, by induction on the steps before.
-use Rattle.counting.proofs.Common.{◌≡◌, ℕ, not, ◌&&◌, List, [], ◌∷◌, ◌++◌, refl, ap, ap₂, ◌∙◌, arith, same_tests, and_from, and_parts, all_in_true, true_all_in, mem, is_apart, is_subset}
+use Rattle.graph_core.proofs.from_counting.Common.{◌≡◌, ℕ, not, ◌&&◌, List, [], ◌∷◌, ◌++◌, refl, ap, ap₂, ◌∙◌, arith, same_tests, and_from, and_parts, all_in_true, true_all_in, mem, is_apart, is_subset}
 use Rattle.tree_core.specs.Common.{last_step, parent_path, result_at, rotate_result, rotate_result_at, Shape}
 use Rattle.tree_core.specs.declared.path.Side.{Side}
 

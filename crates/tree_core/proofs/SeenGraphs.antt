@@ -1,6 +1,6 @@
 -- The graph that is seen at a partition: the graph itself where there are as many blocks as
 -- vertices, and the quotient elsewhere. Both have the same kind.
-use Rattle.counting.proofs.Common.{◌≡◌, ◌≢◌, ◌↔◌, ℕ, List, length, ap, eq-eqb, ne_eqb, subst, sym, if◌then◌else◌, inl, inr, cases_eq}
+use Rattle.graph_core.proofs.from_counting.Common.{◌≡◌, ◌≢◌, ◌↔◌, ℕ, List, length, ap, eq-eqb, ne_eqb, subst, sym, if◌then◌else◌, inl, inr, cases_eq}
 use Rattle.graph_core.proofs.Common.{Graph, IsBipartite, IsMultigraph, IsPartition, quotient}
 use Rattle.tree_core.specs.Places.{seen_at}
 use Rattle.tree_core.proofs.QuotientSides.{sides-at_vertices}

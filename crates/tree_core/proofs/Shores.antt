@@ -1,6 +1,6 @@
 -- Shores in a tree over 1 to n. A rising list lies below n exactly when its greatest number does;
 -- the complement of a shore below n holds n, so it is not empty.
-use Rattle.counting.proofs.Common.{◌≡◌, ◌↔◌, ℕ, ◌-◌, ◌≤◌, ◌<◌, List, [], ◌∷◌, length, true, false, not, ◌&&◌, IsTrue, nat_lt, All, arith, sym, ◌∙◌, ap, and_parts, nat_tests, mem-within, mem-item, mem-all, last_is_greatest, last-greatest, mem-outside, same_rising_list, set-narrower, Within, everything, mem, rising_list, IsRisingIn, IsGreatestOf}
+use Rattle.graph_core.proofs.from_counting.Common.{◌≡◌, ◌↔◌, ℕ, ◌-◌, ◌≤◌, ◌<◌, List, [], ◌∷◌, length, true, false, not, ◌&&◌, IsTrue, nat_lt, All, arith, sym, ◌∙◌, ap, and_parts, nat_tests, mem-within, mem-item, mem-all, last_is_greatest, last-greatest, mem-outside, same_rising_list, set-narrower, Within, everything, mem, rising_list, IsRisingIn, IsGreatestOf}
 use Rattle.graph_core.proofs.Common.{complement_of, complement_of-rises, mem-complement_of}
 
 pub below-greatest : (m n v : ℕ) (xs : List ℕ) → IsRisingIn m xs → IsGreatestOf xs v → IsTrue (nat_lt v n) ↔ All (Within (n - 1)) xs

@@ -1,7 +1,7 @@
 -- Names of blocks. The greatest vertex is in the last block; a partition with as many blocks as
 -- vertices is the one into single vertices: its names are all vertices, so each vertex names its
 -- own block, and no block has a second one.
-use Rattle.counting.proofs.Common.{◌≡◌, ℕ, suc, ◌+◌, ◌-◌, ◌≤◌, ◌<◌, true, false, ◌||◌, List, [], ◌∷◌, ◌++◌, length, get_or, refl, sym, ap, ◌∙◌, arith, subst, zero, eq-eqb, ext_get_or, same_tests, get_or-map, length-map, map-append, only_one, last_is_greatest, mem-all, rising_list-rises, length-rising_list, same_rising_list, set-one, true_all_in, mem-item, same_set-from_size, mem-within, Within, count, IsRisingIn, last_of, mem, rising_list, everything}
+use Rattle.graph_core.proofs.from_counting.Common.{◌≡◌, ℕ, suc, ◌+◌, ◌-◌, ◌≤◌, ◌<◌, true, false, ◌||◌, List, [], ◌∷◌, ◌++◌, length, get_or, refl, sym, ap, ◌∙◌, arith, subst, zero, eq-eqb, ext_get_or, same_tests, get_or-map, length-map, map-append, only_one, last_is_greatest, mem-all, rising_list-rises, length-rising_list, same_rising_list, set-one, true_all_in, mem-item, same_set-from_size, mem-within, Within, count, IsRisingIn, last_of, mem, rising_list, everything}
 use Rattle.graph_core.proofs.Common.{place_in, place_is, mem_last, block-singles, length-singles, IsPartition, block, names_of, place, singles}
 
 -- the last of a list by its place

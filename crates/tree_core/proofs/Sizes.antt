@@ -1,6 +1,6 @@
 -- The sizes of a tree, by induction: a cut adds one leaf and two nodes to what it joins, and its
 -- deeper child has no more levels than nodes.
-use Rattle.counting.proofs.Common.{◌≡◌, ℕ, ◌+◌, ◌*◌, ◌≤◌, List, length, arith, length-append}
+use Rattle.graph_core.proofs.from_counting.Common.{◌≡◌, ℕ, ◌+◌, ◌*◌, ◌≤◌, List, length, arith, length-append}
 use Rattle.tree_core.specs.Common.{Shape, leaf, cut, cut_count, leaf_count, node_count, depth, kept_at, merged_at, leaves_at}
 
 pub depth_at_most_nodes : (t : Shape) → depth t ≤ node_count t

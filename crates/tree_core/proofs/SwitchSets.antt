@@ -1,6 +1,6 @@
 -- Sets of vertices 1 to n as the lists of their tests: unions, differences and complements, also
 -- where n is greater than any vertex that a set can hold.
-use Rattle.counting.proofs.Common.{◌≡◌, ℕ, ◌-◌, ◌≤◌, ◌<◌, Bool, true, false, not, ◌&&◌, ◌||◌, List, [], ◌∷◌, All, min, refl, sym, ap, ◌∙◌, arith, ◌⊎◌, get_or, suc, ◌==◌, same_tests, and_from, and_parts, both_ways, or_cases, mem-within, all_in_false, all_in_true, list-from_test, mem-all, mem-item, mem-outside, set-narrower, true_all_in, Within, IsRisingIn, is_subset, mem, rising_list, Set, everything, minus, union}
+use Rattle.graph_core.proofs.from_counting.Common.{◌≡◌, ℕ, ◌-◌, ◌≤◌, ◌<◌, Bool, true, false, not, ◌&&◌, ◌||◌, List, [], ◌∷◌, All, min, refl, sym, ap, ◌∙◌, arith, ◌⊎◌, get_or, suc, ◌==◌, same_tests, and_from, and_parts, both_ways, or_cases, mem-within, all_in_false, all_in_true, list-from_test, mem-all, mem-item, mem-outside, set-narrower, true_all_in, Within, IsRisingIn, is_subset, mem, rising_list, Set, everything, minus, union}
 use Rattle.graph_core.proofs.Common.{complement_of-rises, mem-complement_of, complement_of}
 use Rattle.tree_core.proofs.Shores.{is-complement}
 use Rattle.tree_core.specs.Common.{is_proper, minus_list, outer_rest, union_list}

@@ -1,7 +1,7 @@
 -- What a tree has, by the paths from its root: by induction along the path, or down the tree.
 -- Idea: the lists of a cut are those of its two parts joined, and the first step of a path says
 -- which part.
-use Rattle.counting.proofs.Common.{◌≡◌, ℕ, suc, ◌+◌, ◌≤◌, List, [], ◌∷◌, ◌++◌, length, refl, sym, ap, subst, arith, inl, inr, ◌⊎◌, Any, cases_lt}
+use Rattle.graph_core.proofs.from_counting.Common.{◌≡◌, ℕ, suc, ◌+◌, ◌≤◌, List, [], ◌∷◌, ◌++◌, length, refl, sym, ap, subst, arith, inl, inr, ◌⊎◌, Any, cases_lt}
 use Rattle.tree_core.specs.Common.{kept_at, merged_at, LeadsTo, leaves_at, Shape, cut, depth, leaf, shores}
 use Rattle.tree_core.specs.declared.path.Side.{Side}
 use Rattle.tree_core.specs.declared.path.Side.TheVariants.{Kept, Merged}

@@ -3,7 +3,7 @@
 -- Stated by: tree_core, tight_cuts, decomposer, move_laws, tree_check, uncross and 5 more.
 -- Used by: bench_outcomes, bench_top.
 use Rattle.std.specs.Prelude.{◌≡◌, ℕ, false, List, length}
-use Rattle.counting.specs.Common.{Set, mem, IsRisingIn}
+use Rattle.graph_core.specs.from_counting.Common.{Set, mem, IsRisingIn}
 use Rattle.graph_core.specs.Common.{Graph, IsCovered, IsNontrivial, IsTight, complement_of, merged, singles, IsTightAt, blocks_in}
 use Rattle.tree_core.specs.Shapes.{Shape, leaf, cut}
 

@@ -2,7 +2,7 @@
 -- the greatest vertex comes in with v.
 -- Stated by: tree_core.
 use Rattle.std.specs.Prelude.{◌≡◌, ℕ, Bool, true, false, List, All, if◌then◌else◌}
-use Rattle.counting.specs.Common.{Within, is_subset, mem}
+use Rattle.graph_core.specs.from_counting.Common.{Within, is_subset, mem}
 use Rattle.tree_core.specs.Moves.{inner_rest, kept_if_greatest_comes, kept_if_greatest_stays, merged_if_greatest_comes, merged_if_greatest_stays, merged_shore_if_greatest_stays, minus_list, outer_rest, union_list}
 use Rattle.tree_core.specs.Shapes.{Shape, cut}
 use Rattle.tree_core.specs.declared.path.Side.{Side}

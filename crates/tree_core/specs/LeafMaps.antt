@@ -3,7 +3,7 @@
 -- Stated by: move_laws, uncross, theorems.
 -- Used by: tree_core, report_text, mcg6_lines, bench_outcomes, bench_reports.
 use Rattle.std.specs.Prelude.{ℕ, zero, suc, ◌+◌, ◌-◌, List, [], ◌∷◌, ◌++◌, ◌==◌, cond, map, unwrap_or, slice_index, slice_index_or, if◌then◌else◌}
-use Rattle.counting.specs.Common.{mem, last_of, is_subset}
+use Rattle.graph_core.specs.from_counting.Common.{mem, last_of, is_subset}
 use Rattle.graph_core.specs.Common.{place, singles, names_of}
 use Rattle.tree_core.specs.Shapes.{Shape, leaf, cut, leaf_count}
 use Rattle.tree_core.specs.Derivations.{kept_at, merged_at}

@@ -2,7 +2,7 @@
 -- Stated by: tree_core, decomposer, move_laws, uncross, mcg6_lines, bench_reports, theorems.
 -- Used by: tree_check, bench_outcomes, bench_top.
 use Rattle.std.specs.Prelude.{◌≡◌, ◌<◌, ℕ, List, [], ◌∷◌, ◌++◌, length, map}
-use Rattle.counting.specs.Common.{mem, IsRisingIn}
+use Rattle.graph_core.specs.from_counting.Common.{mem, IsRisingIn}
 use Rattle.graph_core.specs.Common.{singles, IsUnion}
 use Rattle.contraction.specs.Partition.{PartitionValue}
 use Rattle.tree_core.specs.Shapes.{Shape, leaf, cut}

@@ -10,3 +10,5 @@ pub mod Turns
 pub mod Exchanges
 pub mod Tallies
 pub mod Common
+-- Passed on to the crates above: from_NAME is all that the crate NAME has in its folder of this name.
+pub use Rattle.contraction.specs as from_contraction

@@ -36,7 +36,7 @@
 -- Stated by: tree_core, move_laws, tree_check, uncross, move_text, bench_tasks, theorems.
 -- Used by: report_text, bench_outcomes, bench_reports, bench_top.
 use Rattle.std.specs.Prelude.{◌≡◌, ℕ, Bool, true, List, [], ◌∷◌, ◌&&◌, not, cond, Option, Some, None, option_map, if◌then◌else◌}
-use Rattle.counting.specs.Common.{Within, Set, union, meet, minus, mem, rising_list, is_subset, is_apart, IsRisingIn}
+use Rattle.graph_core.specs.from_counting.Common.{Within, Set, union, meet, minus, mem, rising_list, is_subset, is_apart, IsRisingIn}
 use Rattle.graph_core.specs.Common.{Graph, place, complement_of, IsUnion}
 use Rattle.tree_core.specs.Shapes.{Shape, leaf, cut}
 use Rattle.tree_core.specs.Derivations.{IsDerivation, kept_at, merged_at}

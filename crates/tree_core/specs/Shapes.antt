@@ -2,7 +2,7 @@
 -- Stated by: tree_core, decomposer, move_laws, tree_check, uncross, tree_text and 4 more.
 -- Used by: mcg6_lines, bench_outcomes, bench_top.
 use Rattle.std.specs.Prelude.{ℕ, ◌+◌, ◌-◌, List, [], ◌∷◌, ◌++◌, max, All}
-use Rattle.counting.specs.Common.{Within}
+use Rattle.graph_core.specs.from_counting.Common.{Within}
 
 -- a tree of cuts: a leaf, or a cut by its shore with two trees, one where the shore is kept and
 -- one where it is merged

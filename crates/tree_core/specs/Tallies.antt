@@ -4,7 +4,7 @@
 -- Stated by: tree_core, decomposer, report_text, bench_reports.
 -- Used by: tree_check, mcg6_lines, bench_outcomes, bench_top, theorems.
 use Rattle.std.specs.Prelude.{◌≡◌, ℕ, ◌-◌, List, length, slice_index_or, count_by, Bool, true, false, not}
-use Rattle.counting.specs.Common.{Within}
+use Rattle.graph_core.specs.from_counting.Common.{Within}
 use Rattle.graph_core.specs.Common.{Graph, IsBipartite, quotient}
 use Rattle.tree_core.specs.LeafMaps.{leaf_at}
 use Rattle.tree_core.specs.declared.tallies.LeafKind.{LeafKind}

@@ -1,6 +1,6 @@
 //! Places in a derivation, each with what is known of its quotient.
 ghost use Rattle.std.specs.Prelude.{◌≡◌, ◌↔◌, ◌+◌, ◌≤◌, ◌≢◌, None, length, IfOk, IfSome};
-ghost use Rattle.counting.specs.Common.{count, mem, complement};
+ghost use Rattle.graph_core.specs.from_counting.Common.{count, mem, complement};
 ghost use Rattle.graph_core.specs.Common.{IsCovered, IsPartition, IsWithinLimits, singles, quotient, blocks_in};
 ghost use Rattle.graph_facts.specs.Lent.{graph_in};
 ghost use Rattle.tree_core.specs.Derivations.{IsCutAt, kept_at, merged_at};
@@ -10,10 +10,10 @@ ghost use Rattle.tree_core.specs.Tallies.{IsLeafKind};
 use crate::place::Place;
 use crate::tallies::{LeafKind, kind_by_side};
 use contraction::quotient_graph;
+use graph_core::vset_core::{MOST_VERTICES, VSet};
 use graph_facts::{Covered, Lent};
 use std::alloc::{AllocError as Memory, Global};
 use std::marker::Model;
-use vset_core::{MOST_VERTICES, VSet};
 
 /// A place in a derivation with what is known of the quotient there: at single vertices what is
 /// known of the graph itself, and elsewhere the quotient as a covered graph. Contracts see the

@@ -1,6 +1,6 @@
 //! The leaves of a tree.
 ghost use Rattle.std.specs.Prelude.{◌≡◌, ◌≤◌, ◌<◌, ◌-◌, ◌++◌, length, IfOk, OnOk, All};
-ghost use Rattle.counting.specs.Common.{Within};
+ghost use Rattle.graph_core.specs.from_counting.Common.{Within};
 ghost use Rattle.graph_core.specs.Common.{complement_of, singles};
 ghost use Rattle.contraction.specs.Partition.{IsUnionAt};
 ghost use Rattle.tree_core.specs.Common.{Fits, leaves, leaves_at, partitions_of, StandsAt, shape_of};
@@ -8,8 +8,8 @@ ghost use Rattle.tree_core.specs.Common.{Fits, leaves, leaves_at, partitions_of,
 use crate::partitions::Partitions;
 use crate::tree::Tree;
 use contraction::Partition;
+use graph_core::vset_core::{MOST_VERTICES, VSet};
 use std::alloc::{AllocError as Memory, Global};
-use vset_core::{MOST_VERTICES, VSet};
 
 /// The partitions at the leaves of the tree over 1 to `n`, in preorder, `kept` before `merged`.
 pub fn leaves(alloc: Global, tree: &Tree, n: u32) -> Result<Partitions, Memory>

@@ -31,6 +31,9 @@ mod tallies;
 mod tree;
 mod turns;
 
+// Passed on to the crates above.
+pub use contraction;
+pub use graph_facts;
 pub use known_place::KnownPlace;
 pub use leaf_partitions::{complement_in, leaves};
 pub use leaf_places::kinds_at;

@@ -6,9 +6,9 @@ use crate::path::{Path, Side, path_below};
 use crate::rotation::rotate;
 use crate::switching::switch;
 use crate::tree::Tree;
-use listed::Listed;
+use graph_core::listed::Listed;
+use graph_core::vset_core::VSet;
 use std::alloc::{AllocError as Memory, Global};
-use vset_core::VSet;
 
 /// A move on a tree of cuts, with the path from the root to its node.
 #[derive(Drop)]

@@ -4,8 +4,8 @@ ghost use Rattle.tree_core.specs.Common.{with_child, Fits, cut, shape_of};
 
 use crate::path::Side;
 use crate::tree::Tree;
+use graph_core::vset_core::VSet;
 use std::mem;
-use vset_core::VSet;
 
 /// A cut whose child on one side was taken out.
 #[derive(Drop)]

@@ -1,7 +1,7 @@
 //! Paths in trees.
 ghost use Rattle.std.specs.Prelude.{◌≡◌, ◌∷◌, IfOk};
 
-use listed::CopyList;
+use graph_core::listed::CopyList;
 use std::alloc::{AllocError as Memory, Global};
 
 /// A step from a cut to one of the two trees below it.

@@ -1,16 +1,16 @@
 //! Places in a derivation.
 ghost use Rattle.std.specs.Prelude.{◌≡◌, ◌+◌, ◌≤◌, ◌≢◌, length, IfNone, IfOk, IfSome};
-ghost use Rattle.counting.specs.Common.{count, mem, complement};
+ghost use Rattle.graph_core.specs.from_counting.Common.{count, mem, complement};
 ghost use Rattle.graph_core.specs.Common.{IsCovered, IsPartition, IsWithinLimits, singles, quotient, blocks_in};
 ghost use Rattle.tree_core.specs.Derivations.{IsCutAt, kept_at, merged_at};
 
 use crate::leaf_partitions::complement_in;
 use contraction::Partition;
 use graph_core::MultiGraph;
+use graph_core::vset_core::{MOST_VERTICES, VSet};
 use graph_facts::Covered;
 use std::alloc::{AllocError as Memory, Global};
 use std::marker::Model;
-use vset_core::{MOST_VERTICES, VSet};
 
 /// A place in a derivation: a graph with a partition of its vertices whose quotient is matching
 /// covered. Contracts see the graph and the blocks. A derivation starts at `root`, and each cut

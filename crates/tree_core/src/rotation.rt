@@ -1,6 +1,6 @@
 //! Rotate: a cut is brought over its parent.
 ghost use Rattle.std.specs.Prelude.{◌≡◌, Some, None, IfOk, IfErr};
-ghost use Rattle.counting.specs.Common.{is_apart};
+ghost use Rattle.graph_core.specs.from_counting.Common.{is_apart};
 ghost use Rattle.tree_core.specs.Common.{rotate_result, rotate_result_at, with_child, Shape, cut, IsAnswer, shape_of};
 
 use crate::moves::Stuck;
@@ -8,7 +8,7 @@ use crate::opened::{Opened, open};
 use crate::path::{Path, Side};
 use crate::tree::Tree;
 use crate::turns::{Turn, turn_along};
-use vset_core::VSet;
+use graph_core::vset_core::VSet;
 
 /// Whether two sets have no common vertex. Takes no memory.
 pub fn are_apart(x: VSet, y: VSet) -> bool

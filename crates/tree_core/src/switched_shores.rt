@@ -1,10 +1,10 @@
 //! The shores that a Switch makes.
 ghost use Rattle.std.specs.Prelude.{◌≡◌, ◌-◌, ◌&&◌, ℕ, true, not, min, All};
-ghost use Rattle.counting.specs.Common.{Within, mem, is_subset, rising_list, IsRisingIn, everything};
+ghost use Rattle.graph_core.specs.from_counting.Common.{Within, mem, is_subset, rising_list, IsRisingIn, everything};
 ghost use Rattle.graph_core.specs.Common.{complement_of};
 ghost use Rattle.tree_core.specs.Common.{is_proper, list_if, minus_list, outer_rest, union_list};
 
-use vset_core::{MOST_VERTICES, VSet};
+use graph_core::vset_core::{MOST_VERTICES, VSet};
 
 /// The union of two sets.
 pub(crate) fn union_of(x: VSet, y: VSet, n: u32) -> VSet

@@ -1,6 +1,6 @@
 //! Switch: two sets are exchanged between a shore and its complement, and the shores below follow.
 ghost use Rattle.std.specs.Prelude.{◌≡◌, ◌-◌, Some, None, IfOk, IfErr, All, true, false};
-ghost use Rattle.counting.specs.Common.{Within, mem};
+ghost use Rattle.graph_core.specs.from_counting.Common.{Within, mem};
 ghost use Rattle.tree_core.specs.Common.{IsExchange, cut_after, is_turned, shore_after, tree_after, merged_shore_if_greatest_stays, switch_result, switch_result_at, Fits, IsAnswer, shape_of};
 
 use crate::moves::Stuck;
@@ -10,8 +10,8 @@ use crate::switched_shores::{
 };
 use crate::tree::Tree;
 use crate::turns::{Turn, turn_along};
+use graph_core::vset_core::VSet;
 use std::mem;
-use vset_core::VSet;
 
 // What a Switch at a cut over 1 to n exchanges: u leaves the shore x, and v comes in its place.
 // The greatest vertex n comes in with v, or stays outside.

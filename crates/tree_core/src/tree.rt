@@ -1,10 +1,10 @@
 //! Trees of cuts.
 ghost use Rattle.std.specs.Prelude.{◌≡◌, ◌≤◌, ◌-◌, ◌↔◌, IfOk, IsTrue, All};
-ghost use Rattle.counting.specs.Common.{Within};
+ghost use Rattle.graph_core.specs.from_counting.Common.{Within};
 ghost use Rattle.tree_core.specs.Common.{Fits, node_count, depth, shape_of};
 
+use graph_core::vset_core::VSet;
 use std::alloc::{AllocError as Memory, Global};
-use vset_core::VSet;
 
 /// A tree of cuts. Contracts see it by its plain shape, whatever boxes hold its nodes.
 #[derive(Drop)]

@@ -6,7 +6,7 @@ use crate::path::Side;
 use crate::rotation::rotate_here;
 use crate::switching::switch_here;
 use crate::tree::Tree;
-use vset_core::VSet;
+use graph_core::vset_core::VSet;
 
 /// What a move does at a node.
 #[derive(Drop)]

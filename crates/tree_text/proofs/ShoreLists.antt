@@ -2,8 +2,8 @@
 -- and a set with the numbers of an increasing list is this list. A list that passes the tests of
 -- the format is increasing and lies in range.
 use Rattle.counting.proofs.Common.{◌≡◌, ◌||◌, ◌==◌, ◌+◌, ◌≤◌, ◌<◌, ℕ, suc, List, [], ◌∷◌, All, true, false, length, nat_lt, subst, arith, list_any, and_parts, or_parts, nat_tests, Rises, same_rising_list, set-from_rises, set-wider, or_false, Within, mem, IsRisingIn}
-use Rattle.line_text.specs.Common.{is_out_of_range}
-use Rattle.line_text.proofs.InRange.{in_range}
+use Rattle.graph_core.specs.from_line_text.Common.{is_out_of_range}
+use Rattle.graph_core.proofs.from_line_text.InRange.{in_range}
 use Rattle.tree_text.specs.Common.{is_rising}
 
 pub moved : (vertices shore next behind rest : List ℕ) (v : ℕ) → rest ≡ v ∷ behind → ((w : ℕ) → mem next w ≡ (mem shore w || v == w)) → ((w : ℕ) → mem vertices w ≡ (mem shore w || mem rest w)) → (w : ℕ) → mem vertices w ≡ (mem next w || mem behind w)

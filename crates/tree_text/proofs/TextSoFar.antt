@@ -1,8 +1,8 @@
 -- The lines of a cut and of a tree. Idea: the text written so far is always a list of complete
 -- lines, and appending the lines of a node or of a subtree makes a longer such list.
 use Rattle.counting.proofs.Common.{◌≡◌, ℕ, List, [], ◌∷◌, ◌++◌, codes, map, sym, ◌∙◌, ap, append_assoc, arith, decimal, append-nil}
-use Rattle.line_text.specs.Common.{unwords, written}
-use Rattle.line_text.proofs.WrittenLines.{spaced, unwords-spaced, written-append}
+use Rattle.graph_core.specs.from_line_text.Common.{unwords, written}
+use Rattle.graph_core.proofs.from_line_text.WrittenLines.{spaced, unwords-spaced, written-append}
 use Rattle.tree_core.proofs.Common.{Shape, cut}
 use Rattle.tree_text.specs.Common.{cut_words, header_words, node_words, tree_text}
 

@@ -2,9 +2,9 @@
 -- nonempty, increasing and below n, and the nodes are counted: each line keeps this, since it
 -- passed the tests of the table, and so does a tree put at a place.
 use Rattle.counting.proofs.Common.{◌≡◌, ◌+◌, ◌-◌, ◌≤◌, ◌<◌, ◌||◌, ◌^◌, nat_le, if◌then◌else◌, ℕ, List, [], ◌∷◌, All, Bool, length, map, true, false, Option, Some, None, Result, Ok, IfOk, refl, sym, subst, arith, IsStrictlyIncreasing, and_parts, both_ways, not-false, nat_tests, Within}
-use Rattle.line_text.specs.Common.{Begins, Stands, finish, value_of}
-use Rattle.line_text.proofs.Tables.{all_passed, no_value}
-use Rattle.line_text.specs.declared.faults.FaultKind.TheVariants as kind
+use Rattle.graph_core.specs.from_line_text.Common.{Begins, Stands, finish, value_of}
+use Rattle.graph_core.proofs.from_line_text.Tables.{all_passed, no_value}
+use Rattle.graph_core.specs.from_line_text.declared.faults.FaultKind.TheVariants as kind
 use Rattle.tree_core.proofs.Common.{Shape, leaf, cut, Fits, node_count, below-without_greatest}
 use Rattle.tree_text.specs.Common.{Place, root, in_kept, in_merged, Reading, wanted, whole, put, TreeSoFar, tree_format, node_line, line_behind, behind_first, is_leaf_line, is_cut_line, most_nodes, HasVertices, ShoresRise, IsWritable}
 use Rattle.tree_text.proofs.ShoreLists.{rising_read}

@@ -3,10 +3,10 @@
 -- below it, its `kept` tree put there leads to the place of its `merged` tree, and this one put
 -- there completes the cut. No test of the table applies.
 use Rattle.counting.proofs.Common.{◌≡◌, ◌+◌, ◌-◌, ◌≤◌, ◌<◌, ◌^◌, nat_lt, ℕ, suc, List, [], ◌∷◌, ◌++◌, All, length, map, get_or, codes, true, false, Some, Ok, refl, sym, subst, arith, decimal, IsStrictlyIncreasing, AllByRecursion, list_all, list_any, length-map, and_from, false_from_ne_true, nat_tests, mem-within, Within, mem}
-use Rattle.line_text.specs.Common.{Begins, Stands, has_form, words_of, unwords, is_skipped, IsSignificant, lines_of, is_number, value_of, is_out_of_range}
-use Rattle.line_text.proofs.Decimals.{number_of-decimal, is_word-decimal, numbers-decimal, values-decimal, words-decimal}
-use Rattle.line_text.proofs.InRange.{in_range-tests}
-use Rattle.line_text.proofs.ReadBack.{Stands-written, Stands-comments, is_closed-unlines, Begins-append, significant-append}
+use Rattle.graph_core.specs.from_line_text.Common.{Begins, Stands, has_form, words_of, unwords, is_skipped, IsSignificant, lines_of, is_number, value_of, is_out_of_range}
+use Rattle.graph_core.proofs.from_line_text.Decimals.{number_of-decimal, is_word-decimal, numbers-decimal, values-decimal, words-decimal}
+use Rattle.graph_core.proofs.from_line_text.InRange.{in_range-tests}
+use Rattle.graph_core.proofs.from_line_text.ReadBack.{Stands-written, Stands-comments, is_closed-unlines, Begins-append, significant-append}
 use Rattle.tree_core.proofs.Common.{Shape, leaf, cut, Fits, node_count}
 use Rattle.tree_text.specs.Common.{Place, root, in_kept, in_merged, Reading, wanted, whole, put, TreeSoFar, tree_format, is_rising, is_leaf_line, is_cut_line, most_nodes, header_words, cut_words, node_words, tree_text, HasVertices, ShoresRise, IsWritable}
 

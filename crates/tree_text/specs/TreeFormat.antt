@@ -5,9 +5,9 @@
 use Rattle.std.specs.Prelude.{ℕ, ◌+◌, ◌==◌, ◌&&◌, ◌||◌, not, nat_lt, nat_le, Bool, true, List, [], ◌∷◌, length, map, codes, Result, Ok, Err, if◌then◌else◌}
 use Rattle.std.specs.List.{list_all, list_any}
 use Rattle.counting.specs.Common.{mem}
-use Rattle.line_text.specs.Common.{Rules, checked, has_form, word_at, is_number, value_of, is_out_of_range}
-use Rattle.line_text.specs.declared.faults.FaultKind.{FaultKind}
-use Rattle.line_text.specs.declared.faults.FaultKind.TheVariants as kind
+use Rattle.graph_core.specs.from_line_text.Common.{Rules, checked, has_form, word_at, is_number, value_of, is_out_of_range}
+use Rattle.graph_core.specs.from_line_text.declared.faults.FaultKind.{FaultKind}
+use Rattle.graph_core.specs.from_line_text.declared.faults.FaultKind.TheVariants as kind
 use Rattle.tree_core.specs.Common.{Shape, leaf}
 use Rattle.tree_text.specs.Places.{Place, root, in_kept, Reading, wanted, whole, put}
 

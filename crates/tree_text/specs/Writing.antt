@@ -2,7 +2,7 @@
 -- Stated by: tree_text, bench_reports. Used by: bench_outcomes, bench_top, theorems.
 use Rattle.std.specs.Prelude.{ℕ, ◌≤◌, ◌<◌, ◌^◌, List, [], ◌∷◌, ◌++◌, codes, length, map, decimal}
 use Rattle.std.specs.List.Sorted.{IsStrictlyIncreasing}
-use Rattle.line_text.specs.Common.{written}
+use Rattle.graph_core.specs.from_line_text.Common.{written}
 use Rattle.tree_core.specs.Common.{Shape, leaf, cut, Fits, node_count}
 use Rattle.tree_text.specs.TreeFormat.{most_nodes}
 

@@ -1,7 +1,7 @@
 //! Laws of the texts of trees. Each law is the contract of a function that does nothing.
 ghost use Rattle.std.specs.Prelude.{◌≡◌, ◌<◌, ◌^◌, ℕ, List, ◌++◌, true};
 ghost use Rattle.std.specs.List.{AllByRecursion};
-ghost use Rattle.line_text.specs.Common.{Stands, StandsAlone, lines_of, words_of, is_skipped};
+ghost use Rattle.graph_core.specs.from_line_text.Common.{Stands, StandsAlone, lines_of, words_of, is_skipped};
 ghost use Rattle.tree_core.specs.Common.{Shape};
 ghost use Rattle.tree_text.specs.Common.{tree_format, tree_text, IsWritable};
 

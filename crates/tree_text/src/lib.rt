@@ -21,6 +21,9 @@ pub mod shores;
 mod tree_format;
 mod writing;
 
+// Passed on to the crates above.
+pub use graph_core::{line_text, vset_core};
 pub use pick_format::read_picks;
+pub use tree_core;
 pub use tree_format::read_tree;
 pub use writing::write_tree;

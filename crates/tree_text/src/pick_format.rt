@@ -1,12 +1,14 @@
 //! The pick format.
 ghost use Rattle.std.specs.Prelude.{◌≡◌, ◌<◌, ◌≤◌, ◌-◌, ◌^◌, ℕ, List, length, IfOk, IfErr, Ok, Err};
-ghost use Rattle.line_text.specs.Common.{Gives, Stands, FirstFault, texts_of, IsFirstFault, ReadsText};
-ghost use Rattle.line_text.specs.declared.faults.FaultKind.{FaultKind};
+ghost use Rattle.graph_core.specs.from_line_text.Common.{Gives, Stands, FirstFault, texts_of, IsFirstFault, ReadsText};
+ghost use Rattle.graph_core.specs.from_line_text.declared.faults.FaultKind.{FaultKind};
 ghost use Rattle.tree_text.specs.PickFormat.{PicksSoFar, pick_header, pick_line, pick_end, pick_format};
 ghost use Rattle.tree_text.specs.SoFar.{picks_so_far};
 
 use graph_core::Numbers;
-use line_text::{FaultKind, LineFormat, Refusal, TextFault, has_form, number, read_text, word};
+use graph_core::line_text::{
+    FaultKind, LineFormat, Refusal, TextFault, has_form, number, read_text, word,
+};
 use std::alloc::Global;
 
 const MOST_PICKS: u32 = 127;

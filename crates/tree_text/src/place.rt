@@ -3,9 +3,9 @@ ghost use Rattle.std.specs.Prelude.{◌≡◌, IfOk};
 ghost use Rattle.tree_core.specs.Common.{shape_of};
 ghost use Rattle.tree_text.specs.Common.{put, next_place, progress_of};
 
+use graph_core::vset_core::VSet;
 use std::alloc::{AllocError as Memory, Global};
 use tree_core::Tree;
-use vset_core::VSet;
 
 /// The cuts above a node that is still to be read, from the lowest on, with their subtrees read so
 /// far.

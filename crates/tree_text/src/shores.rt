@@ -2,10 +2,10 @@
 ghost use Rattle.std.specs.Prelude.{◌≡◌, ◌≤◌};
 ghost use Rattle.std.specs.List.{list_any};
 ghost use Rattle.counting.specs.Common.{mem, IsRisingIn};
-ghost use Rattle.line_text.specs.Common.{is_out_of_range};
+ghost use Rattle.graph_core.specs.from_line_text.Common.{is_out_of_range};
 ghost use Rattle.tree_text.specs.Common.{is_rising};
 
-use vset_core::{MOST_VERTICES, VSet};
+use graph_core::vset_core::{MOST_VERTICES, VSet};
 
 /// Whether each number is below the next.
 pub fn rise(vertices: &[u32]) -> bool

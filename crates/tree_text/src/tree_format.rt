@@ -1,7 +1,7 @@
 //! The derivation format.
 ghost use Rattle.std.specs.Prelude.{◌≡◌, ◌<◌, ◌≤◌, ◌-◌, ◌^◌, ℕ, length, map, IfOk, IfErr, Ok, Err};
-ghost use Rattle.line_text.specs.Common.{Gives, Stands, FirstFault, checked, texts_of, IsFirstFault, ReadsText};
-ghost use Rattle.line_text.specs.declared.faults.FaultKind.{FaultKind};
+ghost use Rattle.graph_core.specs.from_line_text.Common.{Gives, Stands, FirstFault, checked, texts_of, IsFirstFault, ReadsText};
+ghost use Rattle.graph_core.specs.from_line_text.declared.faults.FaultKind.{FaultKind};
 ghost use Rattle.tree_core.specs.Common.{Shape, shape_of};
 ghost use Rattle.tree_text.specs.TreeFormat.{TreeSoFar, tree_header, node_line, line_behind, tree_end, tree_format, behind_first, is_cut_line, is_node_line, most_nodes, shore_told, shore_tests, with_node};
 ghost use Rattle.tree_text.specs.Writing.{IsWritable};
@@ -10,13 +10,13 @@ ghost use Rattle.tree_text.specs.SoFar.{next_place, progress_of, tree_so_far};
 use crate::nodes_read::{NodesRead, TreeFormat};
 use crate::place::{Above, Progress, put};
 use crate::shores::{holds, rise, shore_of};
-use line_text::{
+use graph_core::line_text::{
     FaultKind, LineFormat, Refusal, TextFault, has_form, has_out_of_range, number, numbers,
     read_text, word,
 };
+use graph_core::vset_core::{MOST_VERTICES, VSet};
 use std::alloc::{AllocError as Memory, Global};
 use tree_core::Tree;
-use vset_core::{MOST_VERTICES, VSet};
 
 const MOST_NODES: u32 = 127;
 

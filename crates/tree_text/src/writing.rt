@@ -1,12 +1,12 @@
 //! Writing a tree.
 ghost use Rattle.std.specs.Prelude.{◌≡◌, ◌≤◌, ◌++◌, [], ◌∷◌, OnOk, IfOk, string_bytes};
-ghost use Rattle.line_text.specs.Common.{Stands, StandsAlone, written};
+ghost use Rattle.graph_core.specs.from_line_text.Common.{Stands, StandsAlone, written};
 ghost use Rattle.tree_core.specs.Common.{Fits, node_count, shape_of};
 ghost use Rattle.tree_text.specs.Common.{tree_format, most_nodes, cut_words, node_words, tree_text, HasVertices, ShoresRise};
 
+use graph_core::vset_core::VSet;
 use std::alloc::{AllocError as Memory, Global};
 use tree_core::Tree;
-use vset_core::VSet;
 
 // The line of a cut.
 fn push_cut(text: &mut String, shore: VSet) -> Result<(), Memory>

@@ -1,6 +1,6 @@
 -- Further edges at the end of the list of edges: the old ones keep their numbers and ends, and a
 -- degree grows by the new edges that are used.
-use Rattle.counting.proofs.Common.{◌≡◌, ℕ, suc, ◌+◌, ◌*◌, ◌-◌, ◌≤◌, Bool, true, false, ◌==◌, refl, sym, ap, ap₂, ◌∙◌, arith, ◌&&◌, ◌||◌, inl, inr, nat_lt, lt-ltb, le-ltb, [], ◌∷◌, ◌++◌, List, length, slice_index_or, get_or-append-add, cases_eq, or_right, length-append, get_or_append_left, count_congr, some_true, true_some, Within, bit, count, Set, some, IsIn}
+use Rattle.graph_core.proofs.from_counting.Common.{◌≡◌, ℕ, suc, ◌+◌, ◌*◌, ◌-◌, ◌≤◌, Bool, true, false, ◌==◌, refl, sym, ap, ap₂, ◌∙◌, arith, ◌&&◌, ◌||◌, inl, inr, nat_lt, lt-ltb, le-ltb, [], ◌∷◌, ◌++◌, List, length, slice_index_or, get_or-append-add, cases_eq, or_right, length-append, get_or_append_left, count_congr, some_true, true_some, Within, bit, count, Set, some, IsIn}
 use Rattle.graph_core.proofs.Common.{degree_congr, has_ends-own, Graph, degree, first_end, has_ends, second_end, size, with_ends}
 use Rattle.two_ears.specs.AddedEdges.{KeepsEdges, with_pairs}
 use Rattle.two_ears.specs.VertexPairs.{pairs_at}

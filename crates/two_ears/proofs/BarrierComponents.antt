@@ -2,7 +2,7 @@
 -- each perfect matching has one edge that leaves the component. A part of a barrier leaves at most
 -- as many components as it has vertices, and if two parts leave as many, so does their
 -- intersection.
-use Rattle.counting.proofs.Common.{◌≡◌, ℕ, suc, zero, ◌+◌, ◌*◌, ◌≤◌, ◌≢◌, Bool, true, false, refl, sym, ap, ◌∙◌, arith, ◌&&◌, ◌||◌, not, inl, inr, nat_lt, lt-ltb, List, same_tests, cases_Bool, and_parts, and_from, both_ways, true≢false, false_from_ne_true, not-true, count_meet_union, bit_true, count_congr, count_le_one, some_none, some_true, at_le_total, total_add, total_congr, total_le, total_mul, total_none, total_tight, Within, bit, count, is_odd, Set, meet, none, singleton, union, some}
+use Rattle.graph_core.proofs.from_counting.Common.{◌≡◌, ℕ, suc, zero, ◌+◌, ◌*◌, ◌≤◌, ◌≢◌, Bool, true, false, refl, sym, ap, ◌∙◌, arith, ◌&&◌, ◌||◌, not, inl, inr, nat_lt, lt-ltb, List, same_tests, cases_Bool, and_parts, and_from, both_ways, true≢false, false_from_ne_true, not-true, count_meet_union, bit_true, count_congr, count_le_one, some_none, some_true, at_le_total, total_add, total_congr, total_le, total_mul, total_none, total_tight, Within, bit, count, is_odd, Set, meet, none, singleton, union, some}
 use Rattle.barrier_kit.proofs.Common.{cut_edge, crosses_apart, loop_free}
 use Rattle.graph_core.proofs.Common.{joined_outside, walk_joined, component_count, is_least, odd_component_count, IsCovered, Graph, IsGraph, edges_in_cut, first_end, in_cut, inside, second_end, size, with_ends, Allowed, IsPerfect, IsBarrier, Joined, joined}
 use Rattle.two_ears.proofs.ComponentCuts.{arms, component_out, count_in, cut_sum, odd_at_most, odd_leaving, odd_needs, weighted_cut}

@@ -1,6 +1,6 @@
 -- How many classes have equivalences that lie in one another? The label of a class is its least
 -- member, so what is true of the labels of partitions is true of classes.
-use Rattle.counting.proofs.Common.{◌≡◌, ℕ, suc, zero, ◌+◌, ◌≤◌, ◌≢◌, Bool, true, false, cond, ◌==◌, refl, sym, ap₂, arith, ◌&&◌, not, eq-eqb, eqb-true, inl, inr, nat_lt, ltb-true, lt-ltb, cases_eq, cases_Bool, cases_lt, and_parts, and_from, both_ways, true≢false, false_from_ne_true, not-true, count_congr, some_congr, some_none, some_true, true_some, or_second, same_tests, Within, count, some}
+use Rattle.graph_core.proofs.from_counting.Common.{◌≡◌, ℕ, suc, zero, ◌+◌, ◌≤◌, ◌≢◌, Bool, true, false, cond, ◌==◌, refl, sym, ap₂, arith, ◌&&◌, not, eq-eqb, eqb-true, inl, inr, nat_lt, ltb-true, lt-ltb, cases_eq, cases_Bool, cases_lt, and_parts, and_from, both_ways, true≢false, false_from_ne_true, not-true, count_congr, some_congr, some_none, some_true, true_some, or_second, same_tests, Within, count, some}
 use Rattle.two_ears.specs.Equivalences.{IsEquivalence, class_count}
 use Rattle.two_ears.proofs.Labels.{used, IsLabel, finer_used, merge, merge_in, merge_label, merge_used}
 use Rattle.two_ears.proofs.FourPartitions.{four_labels}

@@ -1,6 +1,6 @@
 -- The edges of a matching that leave the components of G - B, component by component: together they
 -- are those that leave B, and an odd component has one.
-use Rattle.counting.proofs.Common.{◌≡◌, ℕ, ◌+◌, ◌*◌, ◌≤◌, Bool, true, false, cond, refl, sym, ap, ◌∙◌, arith, ◌&&◌, ◌||◌, not, nat_lt, le_trans, le_of_eq, List, same_tests, and_parts, and_from, both_ways, false_from_ne_true, not-true, odd-add, odd-double, odd_pos, total_add, total_congr, total_le, total_mul, total_none, total_swap, Within, bit, count, is_odd, total, Set, some}
+use Rattle.graph_core.proofs.from_counting.Common.{◌≡◌, ℕ, ◌+◌, ◌*◌, ◌≤◌, Bool, true, false, cond, refl, sym, ap, ◌∙◌, arith, ◌&&◌, ◌||◌, not, nat_lt, le_trans, le_of_eq, List, same_tests, and_parts, and_from, both_ways, false_from_ne_true, not-true, odd-add, odd-double, odd_pos, total_add, total_congr, total_le, total_mul, total_none, total_swap, Within, bit, count, is_odd, total, Set, some}
 use Rattle.graph_core.proofs.Common.{joined_outside, one_leader, some_leader, degrees, is_least, odd_component_count, Graph, IsGraph, degree, edges_in_cut, first_end, in_cut, inside, second_end, size, with_ends, IsPerfect, joined}
 use Rattle.two_ears.proofs.JoinedClasses.{adjacent_joined, joined_equivalence}
 use Rattle.two_ears.specs.AddedEdges.{KeepsEdges}

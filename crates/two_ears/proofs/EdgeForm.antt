@@ -1,6 +1,6 @@
 -- The two-ear theorem for edges: if adding some edges keeps a covered graph covered, so does adding
 -- one or two of them. Take a perfect matching that contains one of them.
-use Rattle.counting.proofs.Common.{◌≡◌, ℕ, suc, zero, ◌+◌, ◌*◌, ◌≤◌, ◌≢◌, Bool, true, false, cond, ◌==◌, refl, sym, ap, ◌∙◌, arith, ◌&&◌, ◌||◌, not, eqb-true, ◌⊎◌, inl, inr, nat_lt, lt-ltb, le-ltb, subst, [], ◌∷◌, List, length, cases_eq, cases_Bool, cases_lt, and_from, true≢false, not-false, or_right, or_parts, but_not, Within, bit, Set, none, union, IsIn}
+use Rattle.graph_core.proofs.from_counting.Common.{◌≡◌, ℕ, suc, zero, ◌+◌, ◌*◌, ◌≤◌, ◌≢◌, Bool, true, false, cond, ◌==◌, refl, sym, ap, ◌∙◌, arith, ◌&&◌, ◌||◌, not, eqb-true, ◌⊎◌, inl, inr, nat_lt, lt-ltb, le-ltb, subst, [], ◌∷◌, List, length, cases_eq, cases_Bool, cases_lt, and_from, true≢false, not-false, or_right, or_parts, but_not, Within, bit, Set, none, union, IsIn}
 use Rattle.graph_core.proofs.Common.{joined_walk, walk_joined, degree_congr, IsCovered, Graph, IsGraph, degree, first_end, second_end, size, with_ends, Allowed, IsPerfect, Joined}
 use Rattle.two_ears.proofs.AddedEdges.{degree-added, degree-with_pairs, second_end-new, second_end-old, keeps-with_pairs, first_end-new, first_end-old, with_pairs-longer, size-added, with_new}
 use Rattle.two_ears.proofs.JoinedClasses.{keeps-itself, joined_more}

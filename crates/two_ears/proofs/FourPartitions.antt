@@ -2,7 +2,7 @@
 -- both are finer than. Then |f| + |h| ≤ |f0| + |r|, where |f| is the number of classes. Idea: f0
 -- becomes f by merging one pair after another; each merge takes one class from f0, and at most one
 -- from h, in which the pair is merged too.
-use Rattle.counting.proofs.Common.{◌≡◌, ℕ, suc, zero, ◌+◌, ◌≤◌, arith, inl, inr, Within, count}
+use Rattle.graph_core.proofs.from_counting.Common.{◌≡◌, ℕ, suc, zero, ◌+◌, ◌≤◌, arith, inl, inr, Within, count}
 use Rattle.two_ears.proofs.Labels.{used, IsLabel, Finer, finer_used, merge, merge_finer, merge_joins, merge_in, merge_label, merge_used, parted_pair, merge_most}
 
 -- four partitions: f0 in f and in h, and r in each that holds f and h

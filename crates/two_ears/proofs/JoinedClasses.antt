@@ -1,7 +1,7 @@
 -- Being joined in G - S is an equivalence, whose classes are the components of G - S and the single
 -- vertices of S. So the number of components is submodular over sets of vertices no two of which an
 -- edge joins.
-use Rattle.counting.proofs.Common.{◌≡◌, ℕ, ◌+◌, ◌≤◌, ◌≢◌, Bool, true, false, ◌==◌, refl, sym, ap, ap₂, ◌∙◌, arith, ◌&&◌, not, eq-eqb, eqb-true, ◌⊎◌, inl, inr, nat_lt, ltb-true, [], ◌∷◌, List, cases_eq, and_parts, and_from, both_ways, false_from_ne_true, count_meet_union, some_true, true_some, total_add, total_congr, and_comm, Within, bit, count, Set, meet, union, some}
+use Rattle.graph_core.proofs.from_counting.Common.{◌≡◌, ℕ, ◌+◌, ◌≤◌, ◌≢◌, Bool, true, false, ◌==◌, refl, sym, ap, ap₂, ◌∙◌, arith, ◌&&◌, not, eq-eqb, eqb-true, ◌⊎◌, inl, inr, nat_lt, ltb-true, [], ◌∷◌, List, cases_eq, and_parts, and_from, both_ways, false_from_ne_true, count_meet_union, some_true, true_some, total_add, total_congr, and_comm, Within, bit, count, Set, meet, union, some}
 use Rattle.graph_core.proofs.Common.{joined_walk, walk_joined, IsClosed, Walk-stays, adjacent-edge, adjacent_from, adjacent_within, has_ends-back, has_ends-cases, has_ends-own, joined_back, joined_on, joined_self, component_count, is_least, Graph, IsGraph, first_end, has_ends, second_end, size, with_ends, Joined, Walk, adjacent, joined}
 use Rattle.two_ears.proofs.ClassCounts.{IsFiner, four_classes}
 use Rattle.two_ears.specs.AddedEdges.{KeepsEdges}

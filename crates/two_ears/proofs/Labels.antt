@@ -1,6 +1,6 @@
 -- Partitions of 1 to n as labels, and the number of labels in use. A coarser partition uses no more
 -- labels, and one that merges two classes uses one less.
-use Rattle.counting.proofs.Common.{◌≡◌, ℕ, ◌+◌, ◌≤◌, ◌≢◌, Bool, true, false, cond, ◌==◌, refl, sym, ap, ◌∙◌, arith, ◌&&◌, not, eq-eqb, ne_eqb, eqb-true, ◌⊎◌, inl, inr, le_trans, le_of_eq, same_tests, cases_eq, cases_Bool, and_parts, and_from, both_ways, false_from_ne_true, not-true, count_le_one, some_none, some_true, true_some, at_le_total, total_add, total_at, total_congr, total_le, total_none, total_swap, Within, bit, count, total, some}
+use Rattle.graph_core.proofs.from_counting.Common.{◌≡◌, ℕ, ◌+◌, ◌≤◌, ◌≢◌, Bool, true, false, cond, ◌==◌, refl, sym, ap, ◌∙◌, arith, ◌&&◌, not, eq-eqb, ne_eqb, eqb-true, ◌⊎◌, inl, inr, le_trans, le_of_eq, same_tests, cases_eq, cases_Bool, and_parts, and_from, both_ways, false_from_ne_true, not-true, count_le_one, some_none, some_true, true_some, at_le_total, total_add, total_at, total_congr, total_le, total_none, total_swap, Within, bit, count, total, some}
 
 -- a relation that gives each passer of p a passer of q, and no two the same
 pub count_along : (n : ℕ) (p q : ℕ → Bool) (r : ℕ → ℕ → Bool) → ((l : ℕ) → Within n l → p l ≡ true → (k : ℕ) × Within n k × (r l k ≡ true)) →

@@ -1,7 +1,7 @@
 -- Deleting two vertices on opposite sides of a bipartite covered graph leaves a graph with a
 -- perfect matching. Otherwise a barrier contains both; each component that it leaves is heavy on
 -- one side, and no edge would lead from the one side of the barrier to the other.
-use Rattle.counting.proofs.Common.{◌≡◌, ℕ, ◌+◌, ◌≢◌, Bool, true, false, ◌==◌, refl, sym, ap, ap₂, ◌∙◌, arith, ◌&&◌, ◌||◌, not, eq-eqb, ne_eqb, inl, inr, and_parts, and_from, both_ways, true≢false, false_from_ne_true, bit_true, count_congr, at_le_total, some_term, total_add, total_congr, total_none, same_tests, Within, bit, count, Set, complement, meet, none}
+use Rattle.graph_core.proofs.from_counting.Common.{◌≡◌, ℕ, ◌+◌, ◌≢◌, Bool, true, false, ◌==◌, refl, sym, ap, ap₂, ◌∙◌, arith, ◌&&◌, ◌||◌, not, eq-eqb, ne_eqb, inl, inr, and_parts, and_from, both_ways, true≢false, false_from_ne_true, bit_true, count_congr, at_le_total, some_term, total_add, total_congr, total_none, same_tests, Within, bit, count, Set, complement, meet, none}
 use Rattle.barrier_kit.proofs.Common.{equivalent_barrier, perfect_or_not, crosses_apart, cut_edge, loop_free}
 use Rattle.graph_core.proofs.Common.{IsSide, is_least, IsCovered, Graph, IsGraph, edges_in_cut, first_end, in_cut, inside, second_end, size, HasPerfect, IsPerfect, IsBarrier, joined, joined_outside, some_leader, adjacent_from, has_ends-own}
 use Rattle.two_ears.proofs.BarrierComponents.{count_none, none_inside, one_leaves, some_perfect}

@@ -1,7 +1,7 @@
 -- A pair outside a barrier that serves together with no pair inside: some part of the barrier
 -- leaves as many components as it has vertices and joins the two vertices of the pair. So it is
 -- for a list of pairs at once.
-use Rattle.counting.proofs.Common.{◌≡◌, ℕ, suc, ◌+◌, ◌*◌, ◌≤◌, ◌≢◌, Bool, true, false, ◌==◌, refl, sym, ap, ap₂, ◌∙◌, arith, ◌&&◌, ◌||◌, not, eq-eqb, eqb-true, inl, inr, nat_lt, lt-ltb, [], ◌∷◌, ◌++◌, List, cases_eq, cases_Bool, and_parts, and_from, both_ways, true≢false, false_from_ne_true, or_left, or_parts, or_cases, at_le_total, but_not, Within, bit, count, Set, meet, none, union, IsIn}
+use Rattle.graph_core.proofs.from_counting.Common.{◌≡◌, ℕ, suc, ◌+◌, ◌*◌, ◌≤◌, ◌≢◌, Bool, true, false, ◌==◌, refl, sym, ap, ap₂, ◌∙◌, arith, ◌&&◌, ◌||◌, not, eq-eqb, eqb-true, inl, inr, nat_lt, lt-ltb, [], ◌∷◌, ◌++◌, List, cases_eq, cases_Bool, and_parts, and_from, both_ways, true≢false, false_from_ne_true, or_left, or_parts, or_cases, at_le_total, but_not, Within, bit, count, Set, meet, none, union, IsIn}
 use Rattle.barrier_kit.proofs.Common.{equivalent_barrier}
 use Rattle.graph_core.proofs.Common.{degree_congr, adjacent-edge, adjacent_from, has_ends-cases, has_ends-own, component_count, IsCovered, Graph, IsGraph, degree, first_end, second_end, size, with_ends, IsPerfect, Equivalent, IsBarrier, adjacent, joined}
 use Rattle.two_ears.proofs.AddedEdges.{degree-added, each-with_pairs, keeps-added, keeps-with_pairs, new-joined}

@@ -1,7 +1,7 @@
 -- The two-ear theorem. If no pair serves alone and no two do together, each pair lies in a class
 -- or outside it; the parts of a class that keep the pairs outside joined are united, and the
 -- union leaves too many components.
-use Rattle.counting.proofs.Common.{◌≡◌, ℕ, suc, zero, ◌+◌, ◌*◌, ◌≤◌, ◌≢◌, Bool, true, false, cond, ◌==◌, refl, sym, ap, ◌∙◌, arith, ◌&&◌, not, eq-eqb, ne_eqb, eqb-true, ◌⊎◌, inl, inr, [], ◌∷◌, List, length, same_tests, cases_eq, and_left, true≢false, not-true, not-false, or_left, or_right, or_cases, total_add, total_at, total_congr, total_zero, Within, bit, count, total, Set, union, IsIn}
+use Rattle.graph_core.proofs.from_counting.Common.{◌≡◌, ℕ, suc, zero, ◌+◌, ◌*◌, ◌≤◌, ◌≢◌, Bool, true, false, cond, ◌==◌, refl, sym, ap, ◌∙◌, arith, ◌&&◌, not, eq-eqb, ne_eqb, eqb-true, ◌⊎◌, inl, inr, [], ◌∷◌, List, length, same_tests, cases_eq, and_left, true≢false, not-true, not-false, or_left, or_right, or_cases, total_add, total_at, total_congr, total_zero, Within, bit, count, total, Set, union, IsIn}
 use Rattle.graph_core.proofs.Common.{component_count, IsCovered, Graph, IsGraph, degree, first_end, second_end, size, with_ends, HasPerfect, IsPerfect, Equivalent, IsBarrier}
 use Rattle.barrier_kit.proofs.Common.{perfect_or_not, equivalent_back, equivalent_on, class_barrier, perfect_congr, class_set, class_list}
 use Rattle.two_ears.proofs.AddedEdges.{degree-with_pairs, each-with_pairs, keeps-with_pairs, with_new}

@@ -1,7 +1,7 @@
 -- A graph with further edges, whose numbers come after those of its own.
 -- Stated by: two_ears, theorems.
 use Rattle.std.specs.Prelude.{◌≡◌, ℕ, true, List, [], ◌∷◌, ◌++◌}
-use Rattle.counting.specs.Common.{Within, some}
+use Rattle.graph_core.specs.from_counting.Common.{Within, some}
 use Rattle.graph_core.specs.Common.{Graph, size, first_end, second_end, IsGraph, has_ends, with_ends}
 
 -- the list with further pairs at its end

@@ -1,7 +1,7 @@
 -- Equivalences of the numbers 1 to n, as tests, and their classes.
 -- Stated by no contract. Used by: two_ears.
 use Rattle.std.specs.Prelude.{◌≡◌, ℕ, Bool, true, nat_lt, not, ◌&&◌}
-use Rattle.counting.specs.Common.{count, Within, some}
+use Rattle.graph_core.specs.from_counting.Common.{count, Within, some}
 
 -- an equivalence
 pub record IsEquivalence (n : ℕ) (p : ℕ → ℕ → Bool) : Type 0 where

@@ -1,7 +1,7 @@
 -- Lists of pairs of vertices.
 -- Stated by: two_ears, theorems. Used by: ear_core.
 use Rattle.std.specs.Prelude.{ℕ, ◌+◌, ◌≤◌, List, [], ◌∷◌, ◌==◌, not}
-use Rattle.counting.specs.Common.{bit, Within, IsIn, Set, pair_set}
+use Rattle.graph_core.specs.from_counting.Common.{bit, Within, IsIn, Set, pair_set}
 
 -- the two vertices of a pair
 abbrev pub set_of_pair : ℕ × ℕ → Set

@@ -1,6 +1,6 @@
 //! The two-ear theorem. Each law is the contract of a function that does nothing.
 ghost use Rattle.std.specs.Prelude.{◌≡◌, ◌≢◌, ◌⊎◌, ℕ, true, false, List, [], ◌∷◌};
-ghost use Rattle.counting.specs.Common.{Within, Set, pair_set, union, IsIn};
+ghost use Rattle.graph_core.specs.from_counting.Common.{Within, Set, pair_set, union, IsIn};
 ghost use Rattle.graph_core.specs.Common.{IsCovered, Graph, IsGraph, with_ends, HasPerfect, IsSide};
 ghost use Rattle.two_ears.specs.AddedEdges.{with_pairs};
 ghost use Rattle.two_ears.specs.VertexPairs.{AreDisjoint, in_pairs, set_of_pair};

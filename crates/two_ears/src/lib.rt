@@ -16,3 +16,6 @@
 #![tactic(auto)]
 
 pub mod laws;
+
+// Passed on to the crates above.
+pub use barrier_kit::{allowed_edges, graph_facts, match_core, match_search};

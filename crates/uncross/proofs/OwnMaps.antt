@@ -1,10 +1,10 @@
 -- The maps of the empty script, leaf by leaf: leaf i goes to leaf i, whose number has place i among
 -- those of all leaves, and each of its blocks keeps its name.
-use Rattle.counting.proofs.Common.{◌≡◌, ℕ, zero, suc, ◌+◌, ◌<◌, List, [], ◌∷◌, ◌++◌, append_assoc, length, map, ap, ◌∙◌, arith, eq-eqb, ne_eqb, length-map, map-append}
-use Rattle.contraction.specs.Partition.{PartitionValue}
+use Rattle.graph_core.proofs.from_counting.Common.{◌≡◌, ℕ, zero, suc, ◌+◌, ◌<◌, List, [], ◌∷◌, ◌++◌, append_assoc, length, map, ap, ◌∙◌, arith, eq-eqb, ne_eqb, length-map, map-append}
+use Rattle.move_laws.specs.from_contraction.Partition.{PartitionValue}
 use Rattle.graph_core.proofs.Common.{names_of}
 use Rattle.move_laws.proofs.Alignments.{numbers-split}
-use Rattle.tree_core.proofs.Common.{length-leaves_at, PlainLeafMap, maps_from, numbers, own_maps, position, leaves, partitions_of, Shape, leaf_count}
+use Rattle.move_laws.proofs.from_tree_core.Common.{length-leaves_at, PlainLeafMap, maps_from, numbers, own_maps, position, leaves, partitions_of, Shape, leaf_count}
 use Rattle.uncross.proofs.FollowedMaps.{blocks-partitions}
 use Rattle.uncross.specs.Common.{blocks_of, map_of, maps_of}
 use Rattle.uncross.specs.declared.leaf_maps.LeafMap.{LeafMap}

@@ -1,6 +1,6 @@
 -- Places of blocks, counted from 1, and the blocks there. Idea: the place of a vertex is one more
 -- than the number of blocks before its own, so the block there is the item one before it.
-use Rattle.counting.proofs.Common.{List, Some, [], ◌∷◌, ap, arith, sym, get_or, ℕ, ◌+◌, ◌-◌, ◌≤◌, ◌∙◌, ◌≡◌, slice_get, get_or_from_slice_get}
+use Rattle.graph_core.proofs.from_counting.Common.{List, Some, [], ◌∷◌, ap, arith, sym, get_or, ℕ, ◌+◌, ◌-◌, ◌≤◌, ◌∙◌, ◌≡◌, slice_get, get_or_from_slice_get}
 use Rattle.graph_core.proofs.Common.{block, place}
 
 -- no place is 0

@@ -1,10 +1,10 @@
 -- Leaf maps that can be composed with those of a move, and what the compositions lead to.
 -- Stated by: uncross.
 use Rattle.std.specs.Prelude.{◌≡◌, ℕ, List, Option, None, Some, All, length, map}
-use Rattle.contraction.specs.Partition.{PartitionValue}
-use Rattle.counting.specs.Common.{Within, last_of}
+use Rattle.move_laws.specs.from_contraction.Partition.{PartitionValue}
+use Rattle.graph_core.specs.from_counting.Common.{Within, last_of}
 use Rattle.graph_core.specs.Common.{block, place}
-use Rattle.tree_core.specs.Common.{PlainLeafMap, leaf_at, move_maps, position, then_map, leaves, partitions_of, PlainMove, rotate_at, switch_at, Shape}
+use Rattle.move_laws.specs.from_tree_core.Common.{PlainLeafMap, leaf_at, move_maps, position, then_map, leaves, partitions_of, PlainMove, rotate_at, switch_at, Shape}
 use Rattle.uncross.specs.Exchanges.{exchange_at, images_at}
 use Rattle.uncross.specs.MapView.{image_name}
 use Rattle.uncross.specs.declared.block_images.Images.{Images}

@@ -1,14 +1,14 @@
 //! The images of blocks: the names that the blocks of a leaf get by a Switch above it.
 ghost use Rattle.std.specs.Prelude.{◌≡◌, ◌≤◌, IfOk, map};
-ghost use Rattle.counting.specs.Common.{mem, rising_list};
-ghost use Rattle.tree_core.specs.Common.{list_if, meet_list, minus_list, union_list};
+ghost use Rattle.graph_core.specs.from_counting.Common.{mem, rising_list};
+ghost use Rattle.move_laws.specs.from_tree_core.Common.{list_if, meet_list, minus_list, union_list};
 ghost use Rattle.uncross.specs.Common.{image_name, kept_images, merged_images};
 
 use crate::plans::complement;
-use contraction::{Partition, name_of};
 use graph_core::Numbers;
+use graph_core::vset_core::{MOST_VERTICES, VSet};
+use move_laws::contraction::{Partition, name_of};
 use std::alloc::{AllocError as Memory, Global};
-use vset_core::{MOST_VERTICES, VSet};
 
 /// How the blocks of a leaf correspond to the blocks of its partner.
 #[derive(Clone, Copy)]

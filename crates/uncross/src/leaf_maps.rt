@@ -1,18 +1,18 @@
 //! Leaf maps: where each leaf of a tree goes, and its blocks; and their composition with one more
 //! move.
 ghost use Rattle.std.specs.Prelude.{◌≡◌, ◌≤◌, ◌+◌, List, ℕ, length, All, IfOk, map};
-ghost use Rattle.counting.specs.Common.{Within};
-ghost use Rattle.tree_core.specs.Common.{PlainLeafMap, leaf_at, position};
+ghost use Rattle.graph_core.specs.from_counting.Common.{Within};
+ghost use Rattle.move_laws.specs.from_tree_core.Common.{PlainLeafMap, leaf_at, position};
 ghost use Rattle.uncross.specs.Common.{IsMapInto, IsMapIntoIf, IsNameIn, blocks_of, map_after, names_after, images_at, map_of, maps_of};
 
 use crate::block_images::{Images, image_name};
 use crate::exchanges::Exchange;
-use contraction::Partition;
 use graph_core::Numbers;
-use listed::Listed;
+use graph_core::listed::Listed;
+use graph_core::vset_core::MOST_VERTICES;
+use move_laws::contraction::Partition;
+use move_laws::tree_core::{MOST_NODES, Partitions};
 use std::alloc::{AllocError as Memory, Global};
-use tree_core::{MOST_NODES, Partitions};
-use vset_core::MOST_VERTICES;
 
 /// The map of one leaf.
 #[derive(Drop)]

@@ -1,13 +1,13 @@
 //! How many candidates graphs have of which the tight cuts are known.
 
 use super::shapes::{TWO_K33, chordal_ring, pages, three_parts};
+use gallai_edmonds::graph_facts::Covered;
 use graph_core::MultiGraph;
-use graph_facts::Covered;
 use plain_graph::{graph_with, is_covered};
-use separation_kit::FirstPairs;
 use std::alloc::{AllocError as Memory, Global};
 use std::test::Fail;
-use tight_cuts::{candidates, first_candidate};
+use tree_check::separation_kit::FirstPairs;
+use tree_check::tight_cuts::{candidates, first_candidate};
 
 // The number of candidates; none if the graph is not covered, or `first_candidate` answers another
 // one than the first of them.

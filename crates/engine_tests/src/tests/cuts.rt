@@ -1,18 +1,18 @@
 //! Worked cuts, and all odd sets of small graphs against the plain program.
 ghost use Rattle.std.specs.Prelude.{◌≡◌, length, true};
-ghost use Rattle.counting.specs.Common.{is_odd, IsRisingIn};
+ghost use Rattle.tree_check.specs.from_counting.Common.{is_odd, IsRisingIn};
 ghost use Rattle.plain_graph.specs.Small.{IsSmall};
 
 use super::made::{made, set_of_bits};
 use graph_core::MultiGraph;
+use graph_core::vset_core::{MOST_VERTICES, VSet};
 use plain_graph::{
     CYCLE_OF_8, DOUBLED_SQUARE, HEXAGON, K4, PETERSEN, PRISM, TRIANGLE_IN_K33, TWO_K4,
     edges_in_cut, is_covered, is_perfect, is_small,
 };
 use std::alloc::Global;
 use std::test::Fail;
-use tight_cuts::{CandidateList, Origin, Tightness, candidates, find_any, is_tight};
-use vset_core::{MOST_VERTICES, VSet};
+use tree_check::tight_cuts::{CandidateList, Origin, Tightness, candidates, find_any, is_tight};
 
 const TWO_PARALLEL: [(u32, u32); 2] = [(1, 2), (1, 2)];
 

@@ -3,13 +3,13 @@ ghost use Rattle.plain_graph.specs.Small.{IsSmall};
 
 use super::made::{made, set_of};
 use graph_core::MultiGraph;
+use graph_core::vset_core::VSet;
 use plain_graph::{
     K4, PATH, PRISM, STAR, TRIANGLE, edges_in_cut, greatest_matching, has_perfect, is_allowed,
     is_matching, is_perfect, is_small, odd_component_count, perfect_matchings,
 };
 use std::alloc::Global;
 use std::test::Fail;
-use vset_core::VSet;
 
 // A graph, by its order and its edges, and its edges in perfect matchings.
 static ALLOWED: [(u32, &[(u32, u32)], &[u32]); 4] = [

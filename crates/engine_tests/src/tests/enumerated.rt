@@ -6,13 +6,13 @@ ghost use Rattle.plain_graph.specs.Small.{IsSmall};
 use super::made::set_of_bits;
 use super::numbered::{Family, numbered};
 use graph_core::MultiGraph;
+use graph_core::vset_core::VSet;
 use plain_graph::{edges_in_cut, is_bipartite, is_covered, is_small, perfect_matchings};
 use quick_kinds::{quick_brace, quick_brick};
 use rand_core::utils::NextWord;
 use rand_pcg::Lcg64Xsh32;
 use std::alloc::{AllocError as Memory, Global};
 use std::test::Fail;
-use vset_core::VSet;
 
 // Whether the set is one of the vertices, with an odd number of at least three inside and outside.
 fn is_nontrivial(g: &MultiGraph, set: VSet) -> bool {

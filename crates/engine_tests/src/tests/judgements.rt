@@ -3,13 +3,13 @@ ghost use Rattle.std.specs.Prelude.{◌≤◌, length};
 
 use super::built_trees::{cut_into, is_tree};
 use super::made::{made, set_of};
+use graph_core::vset_core::VSet;
 use graph_core::{MultiGraph, Reason};
 use plain_graph::{HEXAGON, PETERSEN, PRISM, TRIANGLE_IN_K33, TWO_EDGES};
 use std::alloc::{AllocError as Memory, Global};
 use std::test::Fail;
+use tree_check::tree_core::{Move, Moves, Path, Tree, fits};
 use tree_check::{Judgement, Replayed, Why, check, replay};
-use tree_core::{Move, Moves, Path, Tree, fits};
-use vset_core::VSet;
 
 // The answer to a tree, and none where it does not fit the graph.
 fn judged(alloc: Global, g: &MultiGraph, tree: &Tree) -> Result<Option<Judgement>, Memory> {

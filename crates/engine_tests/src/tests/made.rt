@@ -1,10 +1,10 @@
 //! What the tests ask about: sets by their members, and graphs by their edges.
 
 use graph_core::MultiGraph;
+use graph_core::vset_core::{MOST_VERTICES, VSet};
 use plain_graph::graph_with;
 use std::alloc::Global;
 use std::test::Fail;
-use vset_core::{MOST_VERTICES, VSet};
 
 // The set of those numbers that a set can hold.
 pub fn set_of(numbers: &[u32]) -> VSet {

@@ -1,18 +1,18 @@
 //! Worked graphs: the sizes of their maximum matchings and how many vertices these miss, their
 //! Gallai-Edmonds sets, and perfect matchings on request.
 ghost use Rattle.std.specs.Prelude.{◌≡◌, true};
-ghost use Rattle.counting.specs.Common.{mem, none};
+ghost use Rattle.tree_check.specs.from_counting.Common.{mem, none};
 ghost use Rattle.graph_core.specs.Common.{missed_count};
 ghost use Rattle.match_core.specs.Common.{IsOf, edges_of};
 
 use super::made::{made, set_of};
 use gallai_edmonds::sets;
+use graph_core::vset_core::VSet;
 use graph_core::{MultiGraph, Numbers};
 use match_core::{FrameSets, Matching, frame, maximum, perfect_with, perfect_without, repair};
 use plain_graph::{FLOWER, K4, PATH, PETERSEN, STAR, TRIANGLE, TWO_EDGES};
 use std::alloc::Global;
 use std::test::Fail;
-use vset_core::VSet;
 
 // A square 3 4 5 6 beside an edge.
 const SQUARE: [(u32, u32); 5] = [(1, 2), (3, 4), (4, 5), (5, 6), (3, 6)];

@@ -1,10 +1,10 @@
 //! Cuts and flows of small nets, against the values of all sets of nodes.
 ghost use Rattle.std.specs.Prelude.{◌≡◌, ◌≢◌, ◌↔◌, IfOk, IsTrue};
-ghost use Rattle.counting.specs.Common.{Within};
+ghost use Rattle.tree_check.specs.from_counting.Common.{Within};
 
 use flow_core::{CutAnswer, Net, SignedList, min_cut};
+use graph_core::vset_core::VSet;
 use std::alloc::{AllocError as Memory, Global};
-use vset_core::VSet;
 
 /// An arc of a table: its ends and its capacity.
 type Row = (u32, u32, u64);

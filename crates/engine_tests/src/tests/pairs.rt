@@ -1,10 +1,11 @@
 //! Worked graphs: their allowed edges, verdicts and pairs; and small graphs beside the plain
 //! program.
-ghost use Rattle.counting.specs.Common.{Within};
+ghost use Rattle.tree_check.specs.from_counting.Common.{Within};
 ghost use Rattle.plain_graph.specs.Small.{IsSmall};
 
 use super::made::{drawn, made, set_of};
 use allowed_edges::{allowed, covered, together};
+use graph_core::vset_core::{MOST_VERTICES, VSet};
 use graph_core::{MultiGraph, Reason, Verdict};
 use match_core::maximum;
 use plain_graph::{
@@ -13,7 +14,6 @@ use plain_graph::{
 };
 use std::alloc::Global;
 use std::test::Fail;
-use vset_core::{MOST_VERTICES, VSet};
 
 const TWINS: [(u32, u32); 3] = [(1, 2), (2, 1), (1, 2)];
 

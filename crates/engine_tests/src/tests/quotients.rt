@@ -3,12 +3,12 @@ ghost use Rattle.std.specs.Prelude.{◌≡◌, ◌≤◌, IfOk};
 
 use super::made::{made, set_of};
 use contraction::{Contracted, Partition, lift, quotient};
+use graph_core::vset_core::{MOST_VERTICES, VSet};
 use graph_core::{Ends, MultiGraph, Numbers};
 use match_core::perfect_with;
 use plain_graph::{CYCLE_OF_8, DOUBLED_SQUARE, K4, TRIANGLE_IN_K33};
 use std::alloc::Global;
 use std::test::Fail;
-use vset_core::{MOST_VERTICES, VSet};
 
 // The single vertices with the shore merged, where there is one.
 fn merged(alloc: Global, order: u32, shore: VSet) -> Result<Partition, Fail>

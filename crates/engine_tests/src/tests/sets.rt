@@ -1,8 +1,8 @@
 //! The operations on sets of vertices: shores of a hexagon, and both ends of the range.
 
 use super::made::set_of;
+use graph_core::vset_core::VSet;
 use std::test::Fail;
-use vset_core::VSet;
 
 #[test]
 fn two_shores(rt: HostRuntime) {

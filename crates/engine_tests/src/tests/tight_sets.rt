@@ -4,11 +4,11 @@ ghost use Rattle.plain_graph.specs.Small.{IsSmall};
 use super::cuts::candidates_if_covered;
 use super::made::{made, set_of_bits};
 use graph_core::MultiGraph;
+use graph_core::vset_core::VSet;
 use plain_graph::{CYCLE_OF_8, HEXAGON, K4, PRISM, TRIANGLE_IN_K33, TWO_K4, is_small};
 use std::alloc::Global;
 use std::test::Fail;
-use tight_cuts::CandidateList;
-use vset_core::VSet;
+use tree_check::tight_cuts::CandidateList;
 
 // Whether some set with at least three vertices on each side is tight, by the plain program. Only
 // sets of the vertices 1 to 8 are tried: no graph of the table has more.

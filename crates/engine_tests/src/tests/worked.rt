@@ -1,20 +1,20 @@
 //! Worked graphs: their classes and pairs, the cuts that these give, and the quick tests.
 ghost use Rattle.std.specs.Prelude.{IsTrue, IfOk, IfSome};
-ghost use Rattle.counting.specs.Common.{IsRisingIn};
+ghost use Rattle.tree_check.specs.from_counting.Common.{IsRisingIn};
 ghost use Rattle.graph_core.specs.Common.{IsBicritical};
 
 use super::made::{made, set_of};
-use barrier_kit::{barrier_cuts, classes, is_barrier};
+use graph_core::vset_core::VSet;
 use graph_core::{Ends, MultiGraph};
 use plain_graph::{
     CUBE, FOUR_CYCLE, HEXAGON, K4, K33, PETERSEN, PRISM, TRIANGLE_IN_K33, TWO_K4, is_bipartite,
     is_covered,
 };
 use quick_kinds::{quick_brace, quick_brick};
-use separation_kit::{cut_pair, first_pairs_law, not_bicritical, separation_cuts};
 use std::alloc::{AllocError as Memory, Global};
 use std::test::Fail;
-use vset_core::VSet;
+use tree_check::barrier_kit::{barrier_cuts, classes, is_barrier};
+use tree_check::separation_kit::{cut_pair, first_pairs_law, not_bicritical, separation_cuts};
 
 fn is_bicritical(alloc: Global, g: &MultiGraph) -> Result<bool, Memory>
     ensures { IfOk result (λ yes. IsTrue yes → IsBicritical g.now) }

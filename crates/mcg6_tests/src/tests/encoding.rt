@@ -2,9 +2,9 @@
 //! read that fails, and with too little room for the line.
 
 use line_text::FaultKind;
+use mcg6_encoder::mcg6_reader::BadLine;
+use mcg6_encoder::outside::{MOST_BYTES, MemSink, MemSource};
 use mcg6_encoder::{EncodeEnding, encode};
-use mcg6_reader::BadLine;
-use outside::{MOST_BYTES, MemSink, MemSource};
 use std::alloc::{AllocError as Memory, Global};
 use std::test::Fail;
 

@@ -1,9 +1,9 @@
 //! The queries that write graphs: `leaves`, `elementary` and `graph`.
 
 use super::told::{Answer, is_told};
-use decomposer::NamedOrder;
 use line_text::FaultKind;
 use mcg6_lines::Query;
+use mcg6_lines::decomposer::NamedOrder;
 use std::test::Fail;
 
 const FIRST: Query = Query::Leaves {

@@ -8,8 +8,8 @@ use super::graphs::{
 use super::trial::{
     CHECK, CHECK_EARS, COMPARE, REPLAY, SCRIPT, ran, ran_over, shelf_of, shelf_without, words_of,
 };
+use bench_top::outside::{CountSink, MemShelf, MemSink};
 use bench_top::{Status, run};
-use outside::{CountSink, MemShelf, MemSink};
 use std::alloc::Global;
 use std::test::Fail;
 

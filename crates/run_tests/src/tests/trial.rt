@@ -1,6 +1,6 @@
 //! Runs of the top call over files in memory.
+use bench_top::outside::{MemShelf, MemSink};
 use bench_top::{Status, run};
-use outside::{MemShelf, MemSink};
 use std::alloc::Global;
 use std::str;
 use std::test::Fail;

@@ -2,7 +2,7 @@
 use super::graphs::HEXAGON;
 use super::trial::{ran_over, shelf_of};
 use bench_top::Status;
-use outside::MemSink;
+use bench_top::outside::MemSink;
 use std::alloc::Global;
 use std::test::Fail;
 

@@ -2,7 +2,7 @@
 
 use super::formats::Answer::{Fault, Same, Written};
 use super::formats::{Beginning, TextRow};
-use line_text::FaultKind::{Header, Missing, Number, Range, Word};
+use graph_core::line_text::FaultKind::{Header, Missing, Number, Range, Word};
 
 /// Ear lists for 2 vertices and 1 edge.
 pub static EARS_OF_2: [TextRow; 1] = [("r mcg 2 1\nstart 1", Written("r mcg 2 1\nstart 1\n"))];

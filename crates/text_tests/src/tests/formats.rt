@@ -4,14 +4,14 @@ ghost use Rattle.std.specs.Prelude.{◌<◌, ◌≤◌, ◌-◌, ◌^◌, length
 
 use ear_text::{read_ears, write_ears};
 use graph_core::MultiGraph;
+use graph_core::line_text::{FaultKind, TextFault};
+use graph_core::vset_core::MOST_VERTICES;
 use graph_text::{Names, read_any, read_graph, write_graph, write_named};
 use graph6_text::{read_graph6, write_graph6};
-use line_text::{FaultKind, TextFault};
+use move_text::tree_text::{read_picks, read_tree, write_tree};
 use move_text::{read_moves, write_moves};
 use std::alloc::{AllocError as Memory, Global};
 use std::test::Fail;
-use tree_text::{read_picks, read_tree, write_tree};
-use vset_core::MOST_VERTICES;
 
 /// A text format, with the numbers of vertices and edges for which its texts are read.
 #[derive(Clone, Copy)]

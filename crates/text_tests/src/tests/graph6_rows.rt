@@ -4,8 +4,8 @@ use super::formats::Answer::{Fault, Same, Written};
 use super::formats::{
     Beginning, Format, LongText, TextRow, has_answer, long_has_answer, long_text,
 };
+use graph_core::line_text::FaultKind::{Extra, Limit, LongForm, Missing, Padding, Range};
 use graph6_text::read_graph6;
-use line_text::FaultKind::{Extra, Limit, LongForm, Missing, Padding, Range};
 use std::alloc::Global;
 use std::test::Fail;
 

@@ -2,10 +2,10 @@
 
 use super::formats::Answer::{Fault, Same, Written};
 use super::formats::{Beginning, TextRow};
-use graph_text::{Names, plain_names};
-use line_text::FaultKind::{
+use graph_core::line_text::FaultKind::{
     BadName, Extra, Header, Limit, Loop, Missing, Number, Range, SameName, Unnamed, Word,
 };
+use graph_text::{Names, plain_names};
 use std::test::Fail;
 
 /// The graph format in version 1.

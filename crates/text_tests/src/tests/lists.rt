@@ -2,10 +2,10 @@
 //! small size, with a read that fails, and with too little room for the output.
 ghost use Rattle.std.specs.Prelude.{◌==◌, if◌then◌else◌};
 ghost use Rattle.std.specs.declared.option.Option.TheVariants.{Some, None};
-ghost use Rattle.line_text.specs.declared.faults.FaultKind.TheVariants.{Missing};
+ghost use Rattle.graph_core.specs.from_line_text.declared.faults.FaultKind.TheVariants.{Missing};
 
 use self::Wanted::{Bad, Done};
-use line_text::FaultKind::{self, Missing, Range};
+use graph_core::line_text::FaultKind::{self, Missing, Range};
 use mcg6_reader::{BadLine, Ending, LineAnswer, LinePlace, LineTeller, tell_all};
 use outside::{MemSink, MemSource};
 use std::alloc::{AllocError as Memory, Global};

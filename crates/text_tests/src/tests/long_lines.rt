@@ -2,7 +2,7 @@
 //! much of its text is kept if it is not.
 
 use super::lists::Copyist;
-use line_text::FaultKind;
+use graph_core::line_text::FaultKind;
 use mcg6_reader::{Ending, tell_all};
 use outside::{MemSink, MemSource};
 use std::alloc::{AllocError as Memory, Global};

@@ -4,7 +4,7 @@ use super::formats::{Answer, Format, all_are_so, all_begin_so, long_has_answer};
 use super::graph6_rows::FULL;
 use super::move_rows::LONG_MOVES;
 use super::{ear_rows, graph_rows, graph6_rows, move_rows, tree_rows};
-use line_text::FaultKind;
+use graph_core::line_text::FaultKind;
 use std::alloc::Global;
 use std::test::Fail;
 

@@ -2,7 +2,7 @@
 
 use super::formats::Answer::{Fault, Same, Written};
 use super::formats::{Beginning, TextRow};
-use line_text::FaultKind::{
+use graph_core::line_text::FaultKind::{
     Extra, HasGreatest, Header, Limit, Missing, NotRising, Number, Range, Word,
 };
 

@@ -1,6 +1,6 @@
 //! Lines and words of texts.
 
-use line_text::{numbers, split_line, split_words};
+use graph_core::line_text::{numbers, split_line, split_words};
 use std::alloc::{AllocError as Memory, Global};
 use std::test::Fail;
 

@@ -1,4 +1,4 @@
-use Rattle.counting.proofs.Common.{arith, same_Some}
+use Rattle.graph_core.proofs.from_counting.Common.{arith, same_Some}
 use Rattle.allowed_edges.proofs.ListedBases.{listed_with}
 use Rattle.allowed_edges.proofs.bases.listed_base.Goals as goal
 

@@ -1,4 +1,4 @@
-use Rattle.counting.proofs.Common.{◌≡◌, rising_list}
+use Rattle.graph_core.proofs.from_counting.Common.{◌≡◌, rising_list}
 use Rattle.graph_core.proofs.Common.{is_allowed}
 use Rattle.allowed_edges.proofs.edges.partnered.Given as goal
 

@@ -1,4 +1,4 @@
-use Rattle.counting.proofs.Common.{List, ℕ, subst, mem}
+use Rattle.graph_core.proofs.from_counting.Common.{List, ℕ, subst, mem}
 use Rattle.match_core.specs.Common.{ArePartners}
 use Rattle.allowed_edges.proofs.perfect.partners_where_perfect.Goals as goal
 

@@ -1,4 +1,4 @@
-use Rattle.counting.proofs.Common.{◌≡◌, sym, ◌∙◌, subst, eqb-true, arith, mem}
+use Rattle.graph_core.proofs.from_counting.Common.{◌≡◌, sym, ◌∙◌, subst, eqb-true, arith, mem}
 use Rattle.graph_core.proofs.Common.{IsPerfect, missed_count, none_missed-perfect}
 use Rattle.match_core.specs.Common.{IsOf, MatchingValue, edges_of}
 use Rattle.allowed_edges.proofs.questions.perfect_off.Goals as goal

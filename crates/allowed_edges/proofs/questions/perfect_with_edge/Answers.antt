@@ -1,4 +1,4 @@
-use Rattle.counting.proofs.Common.{◌≡◌, ◌==◌, ap, ◌∙◌, subst, refl, eq-eqb, arith, or_right, mem, none}
+use Rattle.graph_core.proofs.from_counting.Common.{◌≡◌, ◌==◌, ap, ◌∙◌, subst, refl, eq-eqb, arith, or_right, mem, none}
 use Rattle.graph_core.proofs.Common.{IsPerfect}
 use Rattle.match_core.specs.Common.{MatchingValue, edges_of}
 use Rattle.allowed_edges.proofs.ThroughEdges.{edge_free, one_cut, one_glued, one_leaves}

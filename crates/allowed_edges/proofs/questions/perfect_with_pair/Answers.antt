@@ -1,4 +1,4 @@
-use Rattle.counting.proofs.Common.{◌≡◌, ℕ, ◌==◌, ◌||◌, ap, ◌∙◌, subst, refl, eq-eqb, or_left, or_right, mem, none}
+use Rattle.graph_core.proofs.from_counting.Common.{◌≡◌, ℕ, ◌==◌, ◌||◌, ap, ◌∙◌, subst, refl, eq-eqb, or_left, or_right, mem, none}
 use Rattle.graph_core.proofs.Common.{first_end, second_end, IsPerfect}
 use Rattle.match_core.specs.Common.{MatchingValue, edges_of}
 use Rattle.allowed_edges.proofs.ThroughEdges.{edge_free, second_free, two_cut, two_glued, two_leave}

@@ -1,4 +1,4 @@
-use Rattle.counting.proofs.Common.{◌==◌, ◌∙◌, or_left, mem}
+use Rattle.graph_core.proofs.from_counting.Common.{◌==◌, ◌∙◌, or_left, mem}
 use Rattle.match_core.specs.Common.{edges_of}
 use Rattle.allowed_edges.proofs.ShortPaths.{fewer_removed}
 use Rattle.allowed_edges.proofs.short_paths.in_place_of.Goals as goal

@@ -1,4 +1,4 @@
-use Rattle.counting.proofs.Common.{◌==◌, ◌∙◌, arith, inl, inr, cases_eq, or_left, mem}
+use Rattle.graph_core.proofs.from_counting.Common.{◌==◌, ◌∙◌, arith, inl, inr, cases_eq, or_left, mem}
 use Rattle.allowed_edges.proofs.ShortPaths.{ends_outside, get_below}
 use Rattle.allowed_edges.proofs.short_paths.met_vertices.Goals as goal
 

@@ -1,4 +1,4 @@
-use Rattle.counting.proofs.Common.{◌≡◌, ◌<◌, ℕ, true, slice_get, Some, mem}
+use Rattle.graph_core.proofs.from_counting.Common.{◌≡◌, ◌<◌, ℕ, true, slice_get, Some, mem}
 use Rattle.match_core.specs.declared.matching.MatchRow.{MatchRow}
 use Rattle.allowed_edges.proofs.short_paths.met_vertices.Given as goal
 

@@ -1,4 +1,4 @@
-use Rattle.counting.proofs.Common.{arith, or_parts}
+use Rattle.graph_core.proofs.from_counting.Common.{arith, or_parts}
 use Rattle.allowed_edges.proofs.ShortPaths.{longer_matching, no_edge}
 use Rattle.allowed_edges.proofs.short_paths.with_edge.Goals as goal
 

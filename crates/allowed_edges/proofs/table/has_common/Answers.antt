@@ -1,4 +1,4 @@
-use Rattle.counting.proofs.Common.{[], ◌∙◌, ◌&&◌, ap₂, sym, arith, mem}
+use Rattle.graph_core.proofs.from_counting.Common.{[], ◌∙◌, ◌&&◌, ap₂, sym, arith, mem}
 use Rattle.allowed_edges.specs.EdgeTables.{numbers_at}
 use Rattle.allowed_edges.proofs.HeldNumbers.{meets_listed, read_within}
 use Rattle.allowed_edges.proofs.table.has_common.Goals as goal

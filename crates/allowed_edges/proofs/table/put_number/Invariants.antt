@@ -1,4 +1,4 @@
-use Rattle.counting.proofs.Common.{◌≡◌, ℕ, ◌==◌, ◌&&◌, ◌||◌, length, map, take, mem}
+use Rattle.graph_core.proofs.from_counting.Common.{◌≡◌, ℕ, ◌==◌, ◌&&◌, ◌||◌, length, map, take, mem}
 use Rattle.match_core.proofs.MatchingEdges.{edge_of}
 use Rattle.allowed_edges.specs.EdgeTables.{numbers_at}
 use Rattle.allowed_edges.proofs.table.put_number.Given as goal

@@ -1,6 +1,6 @@
 use Rattle.std.proofs.Common.{◌≡◌, ◌+◌, ℕ, true, length}
 use Rattle.graph_core.proofs.Common.{size}
-use Rattle.match_search.specs.Common.{marks}
+use Rattle.match_core.specs.from_match_search.Common.{marks}
 use Rattle.allowed_edges.specs.PairTables.{NamesEdge}
 use Rattle.allowed_edges.proofs.varied.named_marks.Given as goal
 

@@ -1,5 +1,5 @@
 use Rattle.std.proofs.Common.{arith}
-use Rattle.match_search.specs.Common.{marks}
+use Rattle.match_core.specs.from_match_search.Common.{marks}
 use Rattle.allowed_edges.proofs.TwiceNamed.{named_matching}
 use Rattle.allowed_edges.proofs.varied.perfect_from.Goals as goal
 

@@ -1,4 +1,4 @@
-use Rattle.counting.proofs.Common.{◌≡◌, ◌∙◌, sym, subst, eqb-true, arith, mem}
+use Rattle.graph_core.proofs.from_counting.Common.{◌≡◌, ◌∙◌, sym, subst, eqb-true, arith, mem}
 use Rattle.graph_core.proofs.Common.{missed_count}
 use Rattle.match_core.specs.Common.{edges_of}
 use Rattle.allowed_edges.specs.PairTables.{IsPerfectWith}

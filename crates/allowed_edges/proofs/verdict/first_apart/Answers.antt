@@ -1,4 +1,4 @@
-use Rattle.counting.proofs.Common.{◌≡◌, ◌<◌, [], length, refl, sym, subst, IsLeastOf, none, IsLeastWithout}
+use Rattle.graph_core.proofs.from_counting.Common.{◌≡◌, ◌<◌, [], length, refl, sym, subst, IsLeastOf, none, IsLeastWithout}
 use Rattle.graph_core.proofs.Common.{IsConnected, Joined}
 use Rattle.allowed_edges.proofs.FirstComponent.{all_joined, first_apart, none_weaker, some_component, some_weaker}
 use Rattle.allowed_edges.proofs.verdict.first_apart.Goals as goal

@@ -1,4 +1,4 @@
-use Rattle.counting.proofs.Common.{◌∙◌, arith, subst, sym, inl, inr, both_ways, cases_eq}
+use Rattle.graph_core.proofs.from_counting.Common.{◌∙◌, arith, subst, sym, inl, inr, both_ways, cases_eq}
 use Rattle.graph_core.proofs.Common.{Allowed, is_allowed_found, is_allowed_says}
 use Rattle.allowed_edges.proofs.verdict.first_unallowed.Goals as goal
 

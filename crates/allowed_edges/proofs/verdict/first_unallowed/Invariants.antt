@@ -1,4 +1,4 @@
-use Rattle.counting.proofs.Common.{ℕ, ◌-◌, Within}
+use Rattle.graph_core.proofs.from_counting.Common.{ℕ, ◌-◌, Within}
 use Rattle.graph_core.proofs.Common.{Allowed}
 use Rattle.allowed_edges.proofs.verdict.first_unallowed.Given as goal
 

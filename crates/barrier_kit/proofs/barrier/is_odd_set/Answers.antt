@@ -1,4 +1,4 @@
-use Rattle.counting.proofs.Common.{◌%◌, ◌==◌, ap, ◌∙◌, length, odd_remainder}
+use Rattle.graph_core.proofs.from_counting.Common.{◌%◌, ◌==◌, ap, ◌∙◌, length, odd_remainder}
 use Rattle.barrier_kit.proofs.barrier.is_odd_set.Goals as goal
 
 pub returns : goal.returns

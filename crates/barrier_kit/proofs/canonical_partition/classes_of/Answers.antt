@@ -1,4 +1,4 @@
-use Rattle.counting.proofs.Common.{ap, sym, ◌∙◌, arith, mem}
+use Rattle.graph_core.proofs.from_counting.Common.{ap, sym, ◌∙◌, arith, mem}
 use Rattle.barrier_kit.proofs.ListedClasses.{classes-all, classes-passed, classes-taken}
 use Rattle.barrier_kit.proofs.canonical_partition.classes_of.Goals.{then-not-contains+in_ok-push, else-not-contains}
 use Rattle.barrier_kit.proofs.canonical_partition.classes_of.Goals as goal

@@ -1,4 +1,4 @@
-use Rattle.counting.proofs.Common.{◌≡◌, ℕ, map, Within, mem, rising_list, some}
+use Rattle.graph_core.proofs.from_counting.Common.{◌≡◌, ℕ, map, Within, mem, rising_list, some}
 use Rattle.graph_core.proofs.Common.{is_equivalent, is_least_of_class}
 use Rattle.barrier_kit.proofs.canonical_partition.classes_of.Given as goal
 

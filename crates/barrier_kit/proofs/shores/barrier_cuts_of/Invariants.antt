@@ -1,4 +1,4 @@
-use Rattle.counting.proofs.Common.{◌≡◌, [], fold, flat_map, take, mem}
+use Rattle.graph_core.proofs.from_counting.Common.{◌≡◌, [], fold, flat_map, take, mem}
 use Rattle.graph_core.proofs.Common.{components, with_cut}
 use Rattle.barrier_kit.proofs.shores.barrier_cuts_of.Given as goal
 

@@ -1,6 +1,6 @@
 use Rattle.std.proofs.Common.{arith}
-use Rattle.tree_core.proofs.Common.{shape_of}
-use Rattle.tree_check.specs.Common.{why_of}
+use Rattle.move_text.proofs.from_tree_core.Common.{shape_of}
+use Rattle.bench_outcomes.specs.from_tree_check.Common.{why_of}
 use Rattle.bench_reports.proofs.FaultsPlaced.{refused-node}
 use Rattle.bench_reports.proofs.RefusalsTold.{tree-told}
 use Rattle.bench_reports.proofs.checking.refused_report.Goals as goal

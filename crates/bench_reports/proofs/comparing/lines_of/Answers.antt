@@ -1,4 +1,4 @@
-use Rattle.counting.proofs.Common.{◌≡◌, ◌∙◌, ℕ, List, Some, map, length, slice_get, ap, arith, option_map, into_iter_items, slice_get-map, append-nil, length-map}
+use Rattle.move_text.proofs.from_counting.Common.{◌≡◌, ◌∙◌, ℕ, List, Some, map, length, slice_get, ap, arith, option_map, into_iter_items, slice_get-map, append-nil, length-map}
 use Rattle.contraction.specs.Partition.{PartitionValue}
 use Rattle.uncross.specs.Common.{map_of, maps_of}
 use Rattle.bench_outcomes.specs.Common.{map_lines_of}

@@ -1,5 +1,5 @@
-use Rattle.counting.proofs.Common.{arith, length-map}
-use Rattle.ear_core.specs.Common.{ears_of, step_of}
+use Rattle.move_text.proofs.from_counting.Common.{arith, length-map}
+use Rattle.ear_text.specs.from_ear_core.Common.{ears_of, step_of}
 use Rattle.bench_outcomes.proofs.EarSteps.{few-steps}
 use Rattle.bench_reports.proofs.ear_checking.accepted_report.Goals as goal
 

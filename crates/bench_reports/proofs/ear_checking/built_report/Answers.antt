@@ -1,6 +1,6 @@
-use Rattle.counting.proofs.Common.{ℕ, arith, subst₂, sym, length-map}
-use Rattle.ear_core.proofs.Stepping.{list-fits, list-filled}
-use Rattle.ear_core.specs.Common.{FitsEars, ears_of, step_of}
+use Rattle.move_text.proofs.from_counting.Common.{ℕ, arith, subst₂, sym, length-map}
+use Rattle.ear_text.proofs.from_ear_core.Stepping.{list-fits, list-filled}
+use Rattle.ear_text.specs.from_ear_core.Common.{FitsEars, ears_of, step_of}
 use Rattle.bench_outcomes.proofs.EarSteps.{few-steps}
 use Rattle.bench_reports.proofs.ear_checking.built_report.Goals as goal
 

@@ -1,4 +1,4 @@
-use Rattle.bench_tasks.specs.Common.{task_of}
+use Rattle.bench_outcomes.specs.from_bench_tasks.Common.{task_of}
 use Rattle.bench_reports.proofs.Reported.{all-good, all-may, all-reported}
 use Rattle.bench_reports.proofs.judging.judge.Goals as goal
 

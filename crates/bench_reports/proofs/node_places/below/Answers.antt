@@ -1,4 +1,4 @@
-use Rattle.counting.proofs.Common.{◌<◌, Option, subst, arith, mem}
+use Rattle.move_text.proofs.from_counting.Common.{◌<◌, Option, subst, arith, mem}
 use Rattle.bench_reports.specs.NodeSearch.{AreKeptSteps}
 use Rattle.bench_reports.specs.declared.node_places.Steps.{Steps}
 use Rattle.bench_reports.proofs.NodeSearches.{steps-merged}

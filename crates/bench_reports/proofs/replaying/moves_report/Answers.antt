@@ -1,8 +1,8 @@
 use Rattle.std.proofs.Common.{subst, arith}
-use Rattle.tree_core.proofs.Common.{fits-derivation, moves_of, shape_of}
-use Rattle.tree_check.specs.Common.{IsReplay, why_of}
-use Rattle.tree_check.specs.declared.replaying.Replayed.{Replayed}
-use Rattle.tree_check.proofs.ReplaySteps.{reached-derivation}
+use Rattle.move_text.proofs.from_tree_core.Common.{fits-derivation, moves_of, shape_of}
+use Rattle.bench_outcomes.specs.from_tree_check.Common.{IsReplay, why_of}
+use Rattle.bench_outcomes.specs.from_tree_check.declared.replaying.Replayed.{Replayed}
+use Rattle.bench_outcomes.proofs.from_tree_check.ReplaySteps.{reached-derivation}
 use Rattle.bench_reports.proofs.FaultsPlaced.{refused-node}
 use Rattle.bench_reports.proofs.MadeMoves.{made-refused, made-stuck_at}
 use Rattle.bench_reports.proofs.replaying.moves_report.Goals as goal

@@ -1,6 +1,6 @@
-use Rattle.counting.proofs.Common.{[], ◌∷◌, refl, err_from_is_err_and}
+use Rattle.move_text.proofs.from_counting.Common.{[], ◌∷◌, refl, err_from_is_err_and}
 use Rattle.graph_text.specs.Common.{named_graph}
-use Rattle.ear_core.specs.Common.{ears_of}
+use Rattle.ear_text.specs.from_ear_core.Common.{ears_of}
 use Rattle.bench_tasks.specs.Common.{graph_file, loaded_as, ear_file, place_name, given_ears}
 use Rattle.bench_tasks.proofs.AnswersMade.{answered-both, answered-stopped, answered-stopped-second}
 use Rattle.bench_tasks.proofs.loading.load_ears.Goals as goal

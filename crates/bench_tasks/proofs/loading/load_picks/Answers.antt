@@ -1,4 +1,4 @@
-use Rattle.counting.proofs.Common.{[], ◌∷◌, refl, err_from_is_err_and}
+use Rattle.move_text.proofs.from_counting.Common.{[], ◌∷◌, refl, err_from_is_err_and}
 use Rattle.graph_text.specs.Common.{named_graph}
 use Rattle.bench_tasks.specs.Common.{graph_file, loaded_as, pick_file, place_name, given_picks}
 use Rattle.bench_tasks.proofs.AnswersMade.{answered-both, answered-stopped, answered-stopped-second}

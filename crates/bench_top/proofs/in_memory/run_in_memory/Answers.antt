@@ -2,8 +2,8 @@
 -- faults: so each run over them is calm.
 use Rattle.std.proofs.Common.{◌≡◌, ◌⊎◌, ◌∙◌, ◌==◌, inl, inr, [], ℕ, List, Bool, IsTrue, length, refl, sym, arith}
 use Rattle.std.proofs.lemmas.Option.{none-some, same_Some}
-use Rattle.bench_outcomes.specs.declared.status.Status.{Status}
-use Rattle.bench_outcomes.specs.declared.status.Status.TheVariants.{Done, Negative, Usage, ReadFault, BadInput, WriteFault, Memory}
+use Rattle.bench_reports.specs.from_bench_outcomes.declared.status.Status.{Status}
+use Rattle.bench_reports.specs.from_bench_outcomes.declared.status.Status.TheVariants.{Done, Negative, Usage, ReadFault, BadInput, WriteFault, Memory}
 use Rattle.bench_top.specs.Calm.{HasRead, IsCalm}
 use Rattle.bench_top.proofs.in_memory.run_in_memory.Goals as goal
 

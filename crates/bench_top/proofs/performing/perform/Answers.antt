@@ -1,11 +1,11 @@
 use Rattle.std.proofs.Common.{List, ℕ, ◌≡◌, Option, None, take, refl, subst, ap, inl, inr, Err, IsErrOf, Result, arith}
 use Rattle.outside.specs.Common.{IsCutOff, IsWritten, appended}
-use Rattle.bench_tasks.specs.Common.{asked, HasNoMissing, IsReadFault}
-use Rattle.bench_tasks.specs.declared.stop.Stop.{Stop}
-use Rattle.bench_tasks.specs.declared.tasks.Task.TheVariants as code
-use Rattle.bench_outcomes.specs.Common.{IsReported}
-use Rattle.bench_outcomes.specs.declared.status.Status.{Status}
-use Rattle.bench_outcomes.specs.declared.status.Status.TheVariants.{ReadFault, Usage, WriteFault}
+use Rattle.bench_reports.specs.from_bench_tasks.Common.{asked, HasNoMissing, IsReadFault}
+use Rattle.bench_reports.specs.from_bench_tasks.declared.stop.Stop.{Stop}
+use Rattle.bench_reports.specs.from_bench_tasks.declared.tasks.Task.TheVariants as code
+use Rattle.bench_reports.specs.from_bench_outcomes.Common.{IsReported}
+use Rattle.bench_reports.specs.from_bench_outcomes.declared.status.Status.{Status}
+use Rattle.bench_reports.specs.from_bench_outcomes.declared.status.Status.TheVariants.{ReadFault, Usage, WriteFault}
 use Rattle.bench_top.specs.Endings.{ReportedBad, ReportsBad, stop_in}
 use Rattle.bench_top.proofs.Performed.{GivesGathered, performed}
 use Rattle.bench_top.proofs.RefusalsReported.{no-report, not-placed, reported-refusal}

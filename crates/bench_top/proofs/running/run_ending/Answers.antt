@@ -1,6 +1,6 @@
 use Rattle.std.proofs.Common.{Option, None, subst}
-use Rattle.bench_tasks.specs.Common.{Command}
-use Rattle.bench_outcomes.specs.declared.status.Status.TheVariants.{Usage}
+use Rattle.bench_reports.specs.from_bench_tasks.Common.{Command}
+use Rattle.bench_reports.specs.from_bench_outcomes.declared.status.Status.TheVariants.{Usage}
 use Rattle.bench_top.specs.Runs.{RunsTo}
 use Rattle.bench_top.proofs.RunsMade.{usage-runs}
 use Rattle.bench_top.proofs.running.run_ending.Goals as goal

@@ -1,4 +1,4 @@
-use Rattle.counting.proofs.Common.{ℕ, length, Vec, Global, rising_list}
+use Rattle.graph_core.proofs.from_counting.Common.{ℕ, length, Vec, Global, rising_list}
 use Rattle.graph_core.proofs.Common.{has_ends, graph_of}
 use Rattle.contraction.proofs.QuotientPairs.{ends_differ}
 use Rattle.contraction.proofs.PairLists.{kept-more}

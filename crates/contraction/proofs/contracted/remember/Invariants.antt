@@ -1,4 +1,4 @@
-use Rattle.counting.proofs.Common.{◌≡◌, ℕ, length, map, take, rising_list}
+use Rattle.graph_core.proofs.from_counting.Common.{◌≡◌, ℕ, length, map, take, rising_list}
 use Rattle.graph_core.proofs.Common.{has_ends, graph_of, pair_of}
 use Rattle.indexmap.specs.IndexMap.{keys}
 use Rattle.contraction.proofs.contracted.remember.Given as goal

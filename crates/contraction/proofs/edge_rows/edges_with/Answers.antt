@@ -1,4 +1,4 @@
-use Rattle.counting.proofs.Common.{◌∙◌, ap, arith, take_all, row_of}
+use Rattle.graph_core.proofs.from_counting.Common.{◌∙◌, ap, arith, take_all, row_of}
 use Rattle.contraction.proofs.EdgeRows.{found-all, found-more, hit, miss, row-edge}
 use Rattle.contraction.proofs.edge_rows.edges_with.Goals as goal
 use Rattle.contraction.proofs.edge_rows.edges_with.Goals.{then-are+in_ok-push, else-are}

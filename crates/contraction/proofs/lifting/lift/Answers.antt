@@ -1,8 +1,8 @@
-use Rattle.counting.proofs.Common.{◌≡◌, ℕ, Bool, false, ◌||◌, ◌==◌, List, ap, ◌∙◌, subst, sym, All, arith, list_any, IfOk-weaker, Within, mem}
+use Rattle.graph_core.proofs.from_counting.Common.{◌≡◌, ℕ, Bool, false, ◌||◌, ◌==◌, List, ap, ◌∙◌, subst, sym, All, arith, list_any, IfOk-weaker, Within, mem}
 use Rattle.graph_core.proofs.Common.{size, IsPerfectAt, lifted}
-use Rattle.match_search.proofs.Marks.{no-marks}
+use Rattle.match_core.proofs.from_match_search.Marks.{no-marks}
 use Rattle.match_core.specs.Common.{edges_of}
-use Rattle.match_search.specs.Common.{marks}
+use Rattle.match_core.specs.from_match_search.Common.{marks}
 use Rattle.match_core.specs.declared.matching.MatchRow.{MatchRow}
 use Rattle.contraction.specs.LeastEdges.{least_at}
 use Rattle.contraction.proofs.LeastEdges.{blocks-of, marked-lifted}

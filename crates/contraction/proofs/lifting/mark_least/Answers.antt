@@ -1,7 +1,7 @@
-use Rattle.counting.proofs.Common.{ℕ, ◌||◌, ◌==◌, sym, ap, ◌∙◌, take, or_assoc, list_any}
-use Rattle.match_search.specs.Common.{marks}
+use Rattle.graph_core.proofs.from_counting.Common.{ℕ, ◌||◌, ◌==◌, sym, ap, ◌∙◌, take, or_assoc, list_any}
+use Rattle.match_core.specs.from_match_search.Common.{marks}
 use Rattle.match_core.specs.declared.matching.MatchRow.{MatchRow}
-use Rattle.match_search.proofs.GrownRows.{with_put}
+use Rattle.match_core.proofs.from_match_search.GrownRows.{with_put}
 use Rattle.contraction.specs.LeastEdges.{least_at}
 use Rattle.contraction.proofs.LeastEdges.{any-more}
 use Rattle.contraction.proofs.lifting.mark_least.Goals as goal

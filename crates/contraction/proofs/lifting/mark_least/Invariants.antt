@@ -1,5 +1,5 @@
-use Rattle.counting.proofs.Common.{◌≡◌, ℕ, ◌==◌, ◌||◌, length, take, list_any}
-use Rattle.match_search.specs.Common.{marks}
+use Rattle.graph_core.proofs.from_counting.Common.{◌≡◌, ℕ, ◌==◌, ◌||◌, length, take, list_any}
+use Rattle.match_core.specs.from_match_search.Common.{marks}
 use Rattle.match_core.specs.declared.matching.MatchRow.{MatchRow}
 use Rattle.contraction.specs.LeastEdges.{least_at}
 use Rattle.contraction.proofs.lifting.mark_least.Given as goal

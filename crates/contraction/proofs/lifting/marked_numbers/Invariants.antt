@@ -1,5 +1,5 @@
-use Rattle.counting.proofs.Common.{◌≡◌, rising_list}
-use Rattle.match_search.specs.Common.{marks}
+use Rattle.graph_core.proofs.from_counting.Common.{◌≡◌, rising_list}
+use Rattle.match_core.specs.from_match_search.Common.{marks}
 use Rattle.contraction.proofs.lifting.marked_numbers.Given as goal
 
 abbrev pub invariant-loop-i : goal.invariant-loop-i

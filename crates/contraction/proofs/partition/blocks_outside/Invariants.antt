@@ -1,4 +1,4 @@
-use Rattle.counting.proofs.Common.{◌≡◌, not, take, filter, is_subset}
+use Rattle.graph_core.proofs.from_counting.Common.{◌≡◌, not, take, filter, is_subset}
 use Rattle.contraction.proofs.partition.blocks_outside.Given as goal
 
 abbrev pub invariant-loop-block : goal.invariant-loop-block

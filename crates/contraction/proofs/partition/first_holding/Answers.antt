@@ -1,4 +1,4 @@
-use Rattle.counting.proofs.Common.{fronts, rules, ℕ, List, Bool, YieldsList-from_slice, YieldsList-from_copied, mem}
+use Rattle.graph_core.proofs.from_counting.Common.{fronts, rules, ℕ, List, Bool, YieldsList-from_slice, YieldsList-from_copied, mem}
 use Rattle.itertools.proofs.ConsumerLemmas.{find_at-of-run}
 use Rattle.contraction.proofs.partition.first_holding.Goals as goal
 

@@ -1,4 +1,4 @@
-use Rattle.counting.proofs.Common.{◌≡◌, ap, ◌∙◌, insert, nat_lt, ℕ, List, length, arith, position_or_len, last_of}
+use Rattle.graph_core.proofs.from_counting.Common.{◌≡◌, ap, ◌∙◌, insert, nat_lt, ℕ, List, length, arith, position_or_len, last_of}
 use Rattle.graph_core.proofs.Common.{insert_block}
 use Rattle.contraction.proofs.BlockLists.{insert-position, position_or_len-le}
 use Rattle.contraction.proofs.partition.insert_by_name.Goals as goal

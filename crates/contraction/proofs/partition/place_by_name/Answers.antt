@@ -1,4 +1,4 @@
-use Rattle.counting.proofs.Common.{refl, ◌∙◌, nat_lt, length, last_of}
+use Rattle.graph_core.proofs.from_counting.Common.{refl, ◌∙◌, nat_lt, length, last_of}
 use Rattle.contraction.proofs.BlockLists.{position-length}
 use Rattle.contraction.proofs.partition.place_by_name.Goals as goal
 

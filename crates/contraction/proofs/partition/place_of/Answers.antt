@@ -1,4 +1,4 @@
-use Rattle.counting.proofs.Common.{◌≡◌, ◌<◌, ◌+◌, ℕ, List, Option, Some, None, MatchOption, sym, arith, length, subst, mem}
+use Rattle.graph_core.proofs.from_counting.Common.{◌≡◌, ◌<◌, ◌+◌, ℕ, List, Option, Some, None, MatchOption, sym, arith, length, subst, mem}
 use Rattle.itertools.specs.Consumer.{find_at}
 use Rattle.graph_core.proofs.Common.{place}
 use Rattle.contraction.proofs.BlockLists.{place-find}

@@ -1,4 +1,4 @@
-use Rattle.counting.proofs.Common.{◌≡◌, ℕ, ◌&&◌, mem, some}
+use Rattle.graph_core.proofs.from_counting.Common.{◌≡◌, ℕ, ◌&&◌, mem, some}
 use Rattle.graph_core.proofs.Common.{block}
 use Rattle.contraction.proofs.partition.union_at.Given as goal
 

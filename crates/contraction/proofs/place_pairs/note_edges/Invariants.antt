@@ -1,4 +1,4 @@
-use Rattle.counting.proofs.Common.{◌≡◌, ℕ, length, take, nat_lt, ◌&&◌, list_any, Within, mem, item}
+use Rattle.graph_core.proofs.from_counting.Common.{◌≡◌, ℕ, length, take, nat_lt, ◌&&◌, list_any, Within, mem, item}
 use Rattle.graph_core.proofs.Common.{are_ends}
 use Rattle.contraction.proofs.place_pairs.note_edges.Given as goal
 

@@ -1,4 +1,4 @@
-use Rattle.counting.proofs.Common.{ap, ◌∙◌, arith, Result, IfOk, OnOk, List, ℕ, length, item, mem}
+use Rattle.graph_core.proofs.from_counting.Common.{ap, ◌∙◌, arith, Result, IfOk, OnOk, List, ℕ, length, item, mem}
 use Rattle.contraction.proofs.JoinedPairs.{rows-joined}
 use Rattle.contraction.proofs.place_pairs.pairs_joined.Goals as goal
 

@@ -1,4 +1,4 @@
-use Rattle.counting.proofs.Common.{◌≡◌, ◌++◌, map, pair_with}
+use Rattle.graph_core.proofs.from_counting.Common.{◌≡◌, ◌++◌, map, pair_with}
 use Rattle.graph_core.proofs.Common.{pair_of}
 use Rattle.contraction.proofs.place_pairs.push_row.Given as goal
 

@@ -1,5 +1,5 @@
 use Rattle.std.proofs.Common.{◌≡◌, ◌+◌, ◌-◌, ◌++◌, [], ℕ, List, ap, sym, ◌∙◌, map, flat_map, arith, get_or, inl, inr, subst, append-nil}
-use Rattle.counting.proofs.Common.{flat_map-append, cases_eq, get_or_read, IsRisingIn, item, pair_with, rising_list, everything}
+use Rattle.graph_core.proofs.from_counting.Common.{flat_map-append, cases_eq, get_or_read, IsRisingIn, item, pair_with, rising_list, everything}
 use Rattle.contraction.proofs.place_pairs.row_pairs.Goals as goal
 
 more : (rows : List (List ℕ)) (row : List ℕ) (i : ℕ) (before after : List (ℕ × ℕ)) → item rows (i + 1) ≡ row → before ≡ flat_map (λ a. map (pair_with a) (item rows a)) (rising_list i everything) → after ≡ before ++ map (pair_with (i + 1)) row →

@@ -1,4 +1,4 @@
-use Rattle.counting.proofs.Common.{◌≡◌, ℕ, map, flat_map, Within, IsRisingIn, item, pair_with, rising_list, everything}
+use Rattle.graph_core.proofs.from_counting.Common.{◌≡◌, ℕ, map, flat_map, Within, IsRisingIn, item, pair_with, rising_list, everything}
 use Rattle.graph_core.proofs.Common.{pair_of}
 use Rattle.contraction.proofs.place_pairs.row_pairs.Given as goal
 

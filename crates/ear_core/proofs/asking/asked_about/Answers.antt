@@ -1,4 +1,4 @@
-use Rattle.match_search.specs.Common.{marks}
+use Rattle.two_ears.specs.from_match_search.Common.{marks}
 use Rattle.ear_core.proofs.EngineGraphs.{asked-listed, outside-is}
 use Rattle.ear_core.proofs.asking.asked_about.Goals as goal
 

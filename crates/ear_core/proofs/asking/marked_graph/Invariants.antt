@@ -1,6 +1,6 @@
 use Rattle.std.proofs.Common.{◌≡◌, ◌≤◌}
 use Rattle.graph_core.proofs.Common.{size, with_ends}
-use Rattle.match_search.specs.Common.{marks}
+use Rattle.two_ears.specs.from_match_search.Common.{marks}
 use Rattle.ear_core.specs.Common.{listed}
 use Rattle.ear_core.proofs.asking.marked_graph.Given as goal
 

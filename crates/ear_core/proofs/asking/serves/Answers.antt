@@ -1,5 +1,5 @@
-use Rattle.counting.proofs.Common.{rules, true≢false, mem}
-use Rattle.match_core.specs.Common.{edges_of}
+use Rattle.graph_core.proofs.from_counting.Common.{rules, true≢false, mem}
+use Rattle.two_ears.specs.from_match_core.Common.{edges_of}
 use Rattle.ear_core.proofs.Searching.{asked-serves}
 use Rattle.ear_core.proofs.asking.serves.Goals as goal
 

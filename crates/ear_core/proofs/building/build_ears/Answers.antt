@@ -1,4 +1,4 @@
-use Rattle.counting.proofs.Common.{subst, IfOk, AllByRecursion}
+use Rattle.graph_core.proofs.from_counting.Common.{subst, IfOk, AllByRecursion}
 use Rattle.graph_core.proofs.Common.{Graph, IsBipartite}
 use Rattle.ear_core.specs.Common.{IsSingle, ears_of}
 use Rattle.ear_core.proofs.building.build_ears.Goals as goal

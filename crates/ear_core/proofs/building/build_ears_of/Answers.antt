@@ -1,4 +1,4 @@
-use Rattle.counting.proofs.Common.{map, refl, subst, sym, fun_ext, Set}
+use Rattle.graph_core.proofs.from_counting.Common.{map, refl, subst, sym, fun_ext, Set}
 use Rattle.ear_core.specs.Common.{row_edge, KeepsMates, AreForced, AreNeeded, AreSteps, IsEarList, PlainEars, is_met, ears_of, step_of}
 use Rattle.ear_core.proofs.FirstStage.{first-stage}
 use Rattle.ear_core.proofs.Judging.{one-stage}

@@ -1,6 +1,6 @@
-use Rattle.counting.proofs.Common.{Bool, List, subst, ℕ, Set}
+use Rattle.graph_core.proofs.from_counting.Common.{Bool, List, subst, ℕ, Set}
 use Rattle.graph_core.proofs.Common.{Graph}
-use Rattle.match_search.specs.Common.{marks}
+use Rattle.two_ears.specs.from_match_search.Common.{marks}
 use Rattle.ear_core.specs.Common.{GoesOn, IsBuilt, IsStep, row_edge, step_of}
 use Rattle.ear_core.proofs.GoingOn.{on-ok}
 use Rattle.ear_core.proofs.Stepping.{fewer-off}

@@ -1,6 +1,6 @@
-use Rattle.counting.proofs.Common.{◌≡◌, ◌&&◌, ◌||◌, ℕ, false, not, Within}
+use Rattle.graph_core.proofs.from_counting.Common.{◌≡◌, ◌&&◌, ◌||◌, ℕ, false, not, Within}
 use Rattle.graph_core.proofs.Common.{first_end, second_end}
-use Rattle.match_search.specs.Common.{marks}
+use Rattle.two_ears.specs.from_match_search.Common.{marks}
 use Rattle.ear_core.specs.Common.{is_met}
 use Rattle.ear_core.proofs.building.leaving_edge.Given as goal
 

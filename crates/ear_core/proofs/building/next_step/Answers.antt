@@ -1,6 +1,6 @@
-use Rattle.counting.proofs.Common.{IfOk-weaker, mem, Set}
-use Rattle.match_core.specs.Common.{edges_of}
-use Rattle.match_search.specs.Common.{marks}
+use Rattle.graph_core.proofs.from_counting.Common.{IfOk-weaker, mem, Set}
+use Rattle.two_ears.specs.from_match_core.Common.{edges_of}
+use Rattle.two_ears.specs.from_match_search.Common.{marks}
 use Rattle.ear_core.specs.Common.{IsPerfectRows, IsForced, IsSingle, LeadsAtTwo, step_of}
 use Rattle.ear_core.proofs.LoneLeads.{lone-leads}
 use Rattle.ear_core.proofs.LoneMatchings.{none-forced, single-forced}

@@ -1,5 +1,5 @@
-use Rattle.counting.proofs.Common.{ap, subst, sym, map, List, IfOk, arith, IfOk-weaker, none}
-use Rattle.match_search.specs.Common.{marks}
+use Rattle.graph_core.proofs.from_counting.Common.{ap, subst, sym, map, List, IfOk, arith, IfOk-weaker, none}
+use Rattle.two_ears.specs.from_match_search.Common.{marks}
 use Rattle.ear_core.specs.Common.{AreCandidates, AreMatedEars, IsChosen, KeepsMates, row_edge, IsNeeded, IsSingle, IsStep, next_stage, is_met, ear_of, step_of}
 use Rattle.ear_core.specs.declared.ears.Ear.{Ear}
 use Rattle.ear_core.proofs.LoneLeads.{lone-single}

@@ -1,7 +1,7 @@
 use Rattle.std.proofs.Common.{rules, ◌≡◌, ◌&&◌, ◌||◌, [], append-nil, subst, map, not, List, false, ℕ}
-use Rattle.counting.proofs.Common.{Within}
+use Rattle.graph_core.proofs.from_counting.Common.{Within}
 use Rattle.graph_core.proofs.Common.{size, first_end, second_end}
-use Rattle.match_search.specs.Common.{marks}
+use Rattle.two_ears.specs.from_match_search.Common.{marks}
 use Rattle.ear_core.specs.Common.{PlainStep, AreForced, AreNeeded, AreSteps, is_met, step_of}
 use Rattle.ear_core.proofs.Searching.{at-none}
 use Rattle.ear_core.proofs.Stepping.{all-on}

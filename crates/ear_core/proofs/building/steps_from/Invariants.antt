@@ -1,6 +1,6 @@
-use Rattle.counting.proofs.Common.{◌≡◌, complement, count}
+use Rattle.graph_core.proofs.from_counting.Common.{◌≡◌, complement, count}
 use Rattle.graph_core.proofs.Common.{size}
-use Rattle.match_search.specs.Common.{marks}
+use Rattle.two_ears.specs.from_match_search.Common.{marks}
 use Rattle.ear_core.specs.Common.{IsBuilt, row_edge}
 use Rattle.ear_core.proofs.building.steps_from.Given as goal
 

@@ -1,5 +1,5 @@
 use Rattle.std.proofs.Common.{ap, map}
-use Rattle.match_search.specs.Common.{marks}
+use Rattle.two_ears.specs.from_match_search.Common.{marks}
 use Rattle.ear_core.specs.Common.{ears_of, step_of}
 use Rattle.ear_core.proofs.Judging.{one-stage, judged-accepted, judged-refused}
 use Rattle.ear_core.proofs.checking.check_list.Goals as goal

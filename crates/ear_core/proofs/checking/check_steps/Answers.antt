@@ -1,6 +1,6 @@
-use Rattle.counting.proofs.Common.{rules, ◌≡◌, ◌∷◌, ap, arith, subst, map, None, count_le}
+use Rattle.graph_core.proofs.from_counting.Common.{rules, ◌≡◌, ◌∷◌, ap, arith, subst, map, None, count_le}
 use Rattle.graph_core.proofs.Common.{size}
-use Rattle.match_search.specs.Common.{marks}
+use Rattle.two_ears.specs.from_match_search.Common.{marks}
 use Rattle.ear_core.specs.Common.{IsAskedBefore, IsTaken, step_of}
 use Rattle.ear_core.proofs.FirstStage.{stage-counts}
 use Rattle.ear_core.proofs.Searching.{at-none}

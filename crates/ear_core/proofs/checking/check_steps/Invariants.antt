@@ -1,6 +1,6 @@
-use Rattle.counting.proofs.Common.{◌+◌, ◌≤◌, ℕ, length, map, Option, AllByRecursion, count}
+use Rattle.graph_core.proofs.from_counting.Common.{◌+◌, ◌≤◌, ℕ, length, map, Option, AllByRecursion, count}
 use Rattle.graph_core.proofs.Common.{size}
-use Rattle.match_search.specs.Common.{marks}
+use Rattle.two_ears.specs.from_match_search.Common.{marks}
 use Rattle.ear_core.specs.Common.{FitsStep, IsAskedBefore, PlainWhy, IsJudged, IsMarked, IsStage, step_of}
 use Rattle.ear_core.proofs.checking.check_steps.Given as goal
 

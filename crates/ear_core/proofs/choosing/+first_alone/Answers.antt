@@ -1,4 +1,4 @@
-use Rattle.counting.proofs.Common.{rules, ap, map, subst, sym, ◌∙◌, true≢false}
+use Rattle.graph_core.proofs.from_counting.Common.{rules, ap, map, subst, sym, ◌∙◌, true≢false}
 use Rattle.ear_core.specs.Common.{FindsAlone, IsAsked, NoneServes, ear_of}
 use Rattle.ear_core.proofs.Searching.{alone-here, alone-later, ear-first, ears-behind, none-alone-later, none-carried, some-carried}
 use Rattle.ear_core.proofs.StagePartners.{alone-serves, serves-alone}

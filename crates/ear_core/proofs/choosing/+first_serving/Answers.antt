@@ -1,4 +1,4 @@
-use Rattle.counting.proofs.Common.{rules, ◌≡◌, ◌∙◌, ap, ap₂, map, sym, ◌||◌, ℕ, mem, union}
+use Rattle.graph_core.proofs.from_counting.Common.{rules, ◌≡◌, ◌∙◌, ap, ap₂, map, sym, ◌||◌, ℕ, mem, union}
 use Rattle.ear_core.specs.Common.{ends_of_ear, FindsBeside, NoneServesBeside, ear_of}
 use Rattle.ear_core.proofs.Searching.{serves-same, some-carried, none-carried, beside-here, beside-later, none-beside-later}
 use Rattle.ear_core.proofs.choosing.+first_serving.Goals as goal

@@ -1,6 +1,6 @@
-use Rattle.counting.proofs.Common.{◌≡◌, ◌∙◌, map, subst, sym, List, Option, Some, IfSome, rules, Set}
+use Rattle.graph_core.proofs.from_counting.Common.{◌≡◌, ◌∙◌, map, subst, sym, List, Option, Some, IfSome, rules, Set}
 use Rattle.graph_core.proofs.Common.{Graph, IsGraph}
-use Rattle.match_search.specs.Common.{marks}
+use Rattle.two_ears.specs.from_match_search.Common.{marks}
 use Rattle.ear_core.specs.Common.{AreCandidates, FindsAlone, FindsTwo, IsAsked, IsChosen, IsStage, IsStep, NoTwoServe, NoneServes, PlainEar, ear_of, next_stage, one, step_of}
 use Rattle.ear_core.specs.declared.ears.Ear.{Ear}
 use Rattle.ear_core.specs.declared.ears.Step.{Step}

@@ -1,4 +1,4 @@
-use Rattle.counting.proofs.Common.{arith, subst, All, Within}
+use Rattle.graph_core.proofs.from_counting.Common.{arith, subst, All, Within}
 use Rattle.graph_core.proofs.Common.{size}
 use Rattle.ear_core.proofs.Mates.{other_end-within}
 use Rattle.ear_core.proofs.Walking.{all-behind}

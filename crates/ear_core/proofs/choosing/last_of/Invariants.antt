@@ -1,4 +1,4 @@
-use Rattle.counting.proofs.Common.{◌≡◌, All, length, Within}
+use Rattle.graph_core.proofs.from_counting.Common.{◌≡◌, All, length, Within}
 use Rattle.graph_core.proofs.Common.{size}
 use Rattle.ear_core.specs.Common.{last_vertex}
 use Rattle.ear_core.proofs.choosing.last_of.Given as goal

@@ -1,4 +1,4 @@
-use Rattle.counting.proofs.Common.{rules, ◌≡◌, ◌==◌, ◌⊎◌, ◌∙◌, false, inl, inr, length, subst, sym, true, arith, Within, mem}
+use Rattle.graph_core.proofs.from_counting.Common.{rules, ◌≡◌, ◌==◌, ◌⊎◌, ◌∙◌, false, inl, inr, length, subst, sym, true, arith, Within, mem}
 use Rattle.graph_core.proofs.Common.{size}
 use Rattle.ear_core.proofs.FaultPlaces.{entering-past}
 use Rattle.ear_core.proofs.FirstFaults.{first-item, items-behind}

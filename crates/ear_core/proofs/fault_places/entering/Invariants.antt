@@ -1,4 +1,4 @@
-use Rattle.counting.proofs.Common.{◌≡◌, All, length, Within, mem}
+use Rattle.graph_core.proofs.from_counting.Common.{◌≡◌, All, length, Within, mem}
 use Rattle.graph_core.proofs.Common.{size}
 use Rattle.ear_core.specs.Common.{entering}
 use Rattle.ear_core.proofs.fault_places.entering.Given as goal

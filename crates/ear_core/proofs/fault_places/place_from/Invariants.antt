@@ -1,6 +1,6 @@
-use Rattle.counting.proofs.Common.{◌≡◌, length, map, AllByRecursion}
+use Rattle.graph_core.proofs.from_counting.Common.{◌≡◌, length, map, AllByRecursion}
 use Rattle.graph_core.proofs.Common.{size}
-use Rattle.match_search.specs.Common.{marks}
+use Rattle.two_ears.specs.from_match_search.Common.{marks}
 use Rattle.ear_core.specs.Common.{FitsStep, IsMarked, place_from, step_of}
 use Rattle.ear_core.proofs.fault_places.place_from.Given as goal
 

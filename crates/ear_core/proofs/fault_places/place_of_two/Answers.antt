@@ -1,5 +1,5 @@
 use Rattle.std.proofs.Common.{rules, ◌∙◌}
-use Rattle.match_search.specs.Common.{marks}
+use Rattle.two_ears.specs.from_match_search.Common.{marks}
 use Rattle.ear_core.specs.Common.{ear_of}
 use Rattle.ear_core.proofs.FaultPlaces.{at-first, at-neither, at-second}
 use Rattle.ear_core.proofs.fault_places.place_of_two.Goals as goal

@@ -1,5 +1,5 @@
-use Rattle.counting.proofs.Common.{◌≡◌, ◌||◌, ◌∙◌, ap, not, Bool, Option, ℕ, arith, is_none, is_some, mem}
-use Rattle.match_search.specs.Common.{marks}
+use Rattle.graph_core.proofs.from_counting.Common.{◌≡◌, ◌||◌, ◌∙◌, ap, not, Bool, Option, ℕ, arith, is_none, is_some, mem}
+use Rattle.two_ears.specs.from_match_search.Common.{marks}
 use Rattle.ear_core.proofs.FaultPlaces.{none-found}
 use Rattle.ear_core.proofs.faults.are_new.Goals as goal
 

@@ -1,5 +1,5 @@
-use Rattle.counting.proofs.Common.{rules, ◌<◌, ◌||◌, ◌∙◌, length, mem}
-use Rattle.match_search.specs.Common.{marks}
+use Rattle.graph_core.proofs.from_counting.Common.{rules, ◌<◌, ◌||◌, ◌∙◌, length, mem}
+use Rattle.two_ears.specs.from_match_search.Common.{marks}
 use Rattle.ear_core.proofs.FaultPlaces.{found-behind}
 use Rattle.ear_core.proofs.FirstFaults.{items-behind}
 use Rattle.ear_core.proofs.faults.first_used.Goals as goal

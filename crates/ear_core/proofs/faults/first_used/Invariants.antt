@@ -1,5 +1,5 @@
-use Rattle.counting.proofs.Common.{◌≡◌, ◌<◌, ◌||◌, length, All, find, mem}
-use Rattle.match_search.specs.Common.{marks}
+use Rattle.graph_core.proofs.from_counting.Common.{◌≡◌, ◌<◌, ◌||◌, length, All, find, mem}
+use Rattle.two_ears.specs.from_match_search.Common.{marks}
 use Rattle.ear_core.proofs.faults.first_used.Given as goal
 
 -- the edges that are left decide

@@ -1,4 +1,4 @@
-use Rattle.counting.proofs.Common.{◌≡◌, length, mem}
+use Rattle.graph_core.proofs.from_counting.Common.{◌≡◌, length, mem}
 use Rattle.ear_core.proofs.faults.holds.Given as goal
 
 abbrev pub invariant-numbers : goal.invariant-numbers

@@ -1,4 +1,4 @@
-use Rattle.counting.proofs.Common.{sym, is_odd_remainder}
+use Rattle.graph_core.proofs.from_counting.Common.{sym, is_odd_remainder}
 use Rattle.ear_core.proofs.faults.is_odd.Goals as goal
 
 pub returns : goal.returns

@@ -1,5 +1,5 @@
-use Rattle.counting.proofs.Common.{rules, Bool, List, ◌≡◌, ◌∙◌, sym, ap, arith, is_odd}
-use Rattle.match_search.specs.Common.{marks}
+use Rattle.graph_core.proofs.from_counting.Common.{rules, Bool, List, ◌≡◌, ◌∙◌, sym, ap, arith, is_odd}
+use Rattle.two_ears.specs.from_match_search.Common.{marks}
 use Rattle.ear_core.specs.Common.{has_odd_length, has_good_ends, has_free_inner, has_new_edges}
 use Rattle.ear_core.proofs.FirstFaults.{fault-inner, fault-edge, fault-none, ends-same, free-same}
 use Rattle.ear_core.proofs.faults.tested.Goals as goal

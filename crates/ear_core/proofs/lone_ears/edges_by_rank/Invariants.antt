@@ -1,6 +1,6 @@
-use Rattle.counting.proofs.Common.{◌≡◌, ◌≤◌, count, mem, rising_list}
-use Rattle.match_search.specs.Common.{marks}
-use Rattle.match_core.specs.Common.{edges_of}
+use Rattle.graph_core.proofs.from_counting.Common.{◌≡◌, ◌≤◌, count, mem, rising_list}
+use Rattle.two_ears.specs.from_match_search.Common.{marks}
+use Rattle.two_ears.specs.from_match_core.Common.{edges_of}
 use Rattle.ear_core.specs.Common.{by_rank}
 use Rattle.ear_core.proofs.lone_ears.edges_by_rank.Given as goal
 

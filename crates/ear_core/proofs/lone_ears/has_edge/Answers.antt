@@ -1,5 +1,5 @@
-use Rattle.counting.proofs.Common.{rules, ◌≡◌, ◌∙◌, ◌+◌, ◌==◌, ◌||◌, ap, drop, false, map, sym, true, or_left, mem}
-use Rattle.match_core.specs.declared.matching.MatchRow.{MatchRow}
+use Rattle.graph_core.proofs.from_counting.Common.{rules, ◌≡◌, ◌∙◌, ◌+◌, ◌==◌, ◌||◌, ap, drop, false, map, sym, true, or_left, mem}
+use Rattle.two_ears.specs.from_match_core.declared.matching.MatchRow.{MatchRow}
 use Rattle.ear_core.proofs.MarkedMatchings.{edges-at}
 use Rattle.ear_core.proofs.lone_ears.has_edge.Goals as goal
 

@@ -1,5 +1,5 @@
-use Rattle.counting.proofs.Common.{◌≡◌, drop, map, mem}
-use Rattle.match_core.specs.declared.matching.MatchRow.{MatchRow}
+use Rattle.graph_core.proofs.from_counting.Common.{◌≡◌, drop, map, mem}
+use Rattle.two_ears.specs.from_match_core.declared.matching.MatchRow.{MatchRow}
 use Rattle.ear_core.proofs.lone_ears.has_edge.Given as goal
 
 -- the rows that are left decide

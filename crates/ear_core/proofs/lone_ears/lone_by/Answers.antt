@@ -1,5 +1,5 @@
-use Rattle.counting.proofs.Common.{◌+◌, arith, subst, sym, true, cases_eq, mem, true≢false}
-use Rattle.match_search.specs.Common.{marks}
+use Rattle.graph_core.proofs.from_counting.Common.{◌+◌, arith, subst, sym, true, cases_eq, mem, true≢false}
+use Rattle.two_ears.specs.from_match_search.Common.{marks}
 use Rattle.ear_core.specs.Common.{IsAsked}
 use Rattle.ear_core.proofs.NextStages.{met-within}
 use Rattle.ear_core.proofs.Searching.{at-none}

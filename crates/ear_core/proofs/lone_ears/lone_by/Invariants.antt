@@ -1,5 +1,5 @@
-use Rattle.counting.proofs.Common.{◌≡◌, ◌≢◌, ℕ, true, Within, mem, Set}
-use Rattle.match_search.specs.Common.{marks}
+use Rattle.graph_core.proofs.from_counting.Common.{◌≡◌, ◌≢◌, ℕ, true, Within, mem, Set}
+use Rattle.two_ears.specs.from_match_search.Common.{marks}
 use Rattle.ear_core.specs.Common.{IsPerfectBy, is_met, is_open}
 use Rattle.ear_core.proofs.lone_ears.lone_by.Given as goal
 

@@ -1,6 +1,6 @@
-use Rattle.counting.proofs.Common.{◌∙◌, subst, sym, fun_ext, mem, Set}
+use Rattle.graph_core.proofs.from_counting.Common.{◌∙◌, subst, sym, fun_ext, mem, Set}
 use Rattle.graph_core.proofs.Common.{Graph}
-use Rattle.match_core.specs.Common.{ArePartners}
+use Rattle.two_ears.specs.from_match_core.Common.{ArePartners}
 use Rattle.ear_core.proofs.lone_ears.lone_matching.Goals as goal
 
 pub keep-requires : goal.keep-requires

@@ -1,6 +1,6 @@
-use Rattle.counting.proofs.Common.{◌≡◌, ◌+◌, ℕ, length, Within, mem, pair_set}
+use Rattle.graph_core.proofs.from_counting.Common.{◌≡◌, ◌+◌, ℕ, length, Within, mem, pair_set}
 use Rattle.graph_core.proofs.Common.{size}
-use Rattle.match_search.specs.Common.{marks}
+use Rattle.two_ears.specs.from_match_search.Common.{marks}
 use Rattle.ear_core.specs.Common.{is_open, is_met}
 use Rattle.ear_core.proofs.lone_ears.open_edges.Given as goal
 

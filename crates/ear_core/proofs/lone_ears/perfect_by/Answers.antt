@@ -1,7 +1,7 @@
-use Rattle.counting.proofs.Common.{subst, sym, List, All, ℕ, Within, mem, none}
+use Rattle.graph_core.proofs.from_counting.Common.{subst, sym, List, All, ℕ, Within, mem, none}
 use Rattle.graph_core.proofs.Common.{Graph, size, with_ends, HasPerfect, IsPerfect}
-use Rattle.match_core.specs.Common.{edges_of}
-use Rattle.match_search.specs.Common.{HasPerfectWith, HoldsAll, marks}
+use Rattle.two_ears.specs.from_match_core.Common.{edges_of}
+use Rattle.two_ears.specs.from_match_search.Common.{HasPerfectWith, HoldsAll, marks}
 use Rattle.ear_core.specs.Common.{listed}
 use Rattle.ear_core.proofs.MarkedMatchings.{held-marked, listed-found, listed-within, marked-listed}
 use Rattle.ear_core.proofs.lone_ears.perfect_by.Goals as goal

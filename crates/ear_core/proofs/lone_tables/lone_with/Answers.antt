@@ -1,5 +1,5 @@
 use Rattle.std.proofs.Common.{◌∙◌, sym}
-use Rattle.match_search.specs.Common.{marks}
+use Rattle.two_ears.specs.from_match_search.Common.{marks}
 use Rattle.ear_core.proofs.LoneTables.{lone-sound, lone-complete}
 use Rattle.ear_core.proofs.lone_tables.lone_with.Goals as goal
 

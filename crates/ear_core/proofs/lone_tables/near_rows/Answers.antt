@@ -1,5 +1,5 @@
-use Rattle.counting.proofs.Common.{◌∙◌, refl, subst, sym, Within}
-use Rattle.match_search.specs.Common.{marks}
+use Rattle.graph_core.proofs.from_counting.Common.{◌∙◌, refl, subst, sym, Within}
+use Rattle.two_ears.specs.from_match_search.Common.{marks}
 use Rattle.ear_core.proofs.LoneTables.{near-step}
 use Rattle.ear_core.proofs.lone_tables.near_rows.Goals as goal
 

@@ -1,6 +1,6 @@
-use Rattle.counting.proofs.Common.{◌≡◌, ◌&&◌, ℕ, not, length, Within, item, mem, some}
+use Rattle.graph_core.proofs.from_counting.Common.{◌≡◌, ◌&&◌, ℕ, not, length, Within, item, mem, some}
 use Rattle.graph_core.proofs.Common.{has_ends}
-use Rattle.match_search.specs.Common.{marks}
+use Rattle.two_ears.specs.from_match_search.Common.{marks}
 use Rattle.ear_core.proofs.lone_tables.near_rows.Given as goal
 
 -- the neighbours by the edges so far

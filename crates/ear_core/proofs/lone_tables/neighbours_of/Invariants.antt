@@ -1,4 +1,4 @@
-use Rattle.counting.proofs.Common.{◌≡◌, ℕ, mem}
+use Rattle.graph_core.proofs.from_counting.Common.{◌≡◌, ℕ, mem}
 use Rattle.ear_core.specs.Common.{in_rows}
 use Rattle.ear_core.proofs.lone_tables.neighbours_of.Given as goal
 

@@ -1,4 +1,4 @@
-use Rattle.counting.proofs.Common.{◌≡◌, ◌∙◌, [], List, ℕ, ap, sym, subst, and_from, and_parts, mem, true≢false}
+use Rattle.graph_core.proofs.from_counting.Common.{◌≡◌, ◌∙◌, [], List, ℕ, ap, sym, subst, and_from, and_parts, mem, true≢false}
 use Rattle.ear_core.proofs.Searching.{at-none}
 use Rattle.ear_core.proofs.StageClasses.{left-other}
 use Rattle.ear_core.specs.Common.{IsAsked}

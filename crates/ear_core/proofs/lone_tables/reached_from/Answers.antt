@@ -1,4 +1,4 @@
-use Rattle.counting.proofs.Common.{◌∙◌, ap, List, ℕ, item, mem}
+use Rattle.graph_core.proofs.from_counting.Common.{◌∙◌, ap, List, ℕ, item, mem}
 use Rattle.ear_core.specs.Common.{in_rows}
 use Rattle.ear_core.proofs.LoneTables.{reached-is}
 use Rattle.ear_core.proofs.lone_tables.reached_from.Goals as goal

@@ -1,7 +1,7 @@
-use Rattle.counting.proofs.Common.{subst, sym, mem}
+use Rattle.graph_core.proofs.from_counting.Common.{subst, sym, mem}
 use Rattle.graph_core.proofs.Common.{Graph}
-use Rattle.match_core.specs.Common.{ArePartners, IsOf}
-use Rattle.match_search.specs.Common.{marks}
+use Rattle.two_ears.specs.from_match_core.Common.{ArePartners, IsOf}
+use Rattle.two_ears.specs.from_match_search.Common.{marks}
 use Rattle.ear_core.proofs.LoneTables.{tables-are}
 use Rattle.ear_core.proofs.lone_tables.tables_of.Goals as goal
 

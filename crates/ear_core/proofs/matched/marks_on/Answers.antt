@@ -1,6 +1,6 @@
-use Rattle.counting.proofs.Common.{◌≡◌, ◌∙◌, ap, inl, inr, sym, cases_eq, mem}
-use Rattle.match_core.specs.Common.{edges_of}
-use Rattle.match_search.specs.Common.{marks}
+use Rattle.graph_core.proofs.from_counting.Common.{◌≡◌, ◌∙◌, ap, inl, inr, sym, cases_eq, mem}
+use Rattle.two_ears.specs.from_match_core.Common.{edges_of}
+use Rattle.two_ears.specs.from_match_search.Common.{marks}
 use Rattle.ear_core.proofs.StageMates.{row-among}
 use Rattle.ear_core.proofs.matched.marks_on.Goals as goal
 

@@ -1,4 +1,4 @@
-use Rattle.match_search.proofs.WholeGraphs.{limits_row}
+use Rattle.two_ears.proofs.from_match_search.WholeGraphs.{limits_row}
 use Rattle.ear_core.proofs.matched.matched_mates.Goals as goal
 
 pub mates_of-requires-clause-row : goal.mates_of-requires-clause-row

@@ -1,8 +1,8 @@
-use Rattle.counting.proofs.Common.{◌≡◌, ap, subst, sym, mem, IfOk-weaker, none, Set}
+use Rattle.graph_core.proofs.from_counting.Common.{◌≡◌, ap, subst, sym, mem, IfOk-weaker, none, Set}
 use Rattle.graph_core.proofs.Common.{Graph, IsMatching}
-use Rattle.match_core.specs.Common.{edges_of}
-use Rattle.match_search.proofs.WholeGraphs.{limits_row, whole_graph}
-use Rattle.match_search.specs.Common.{HasMates, marks, numbers}
+use Rattle.two_ears.specs.from_match_core.Common.{edges_of}
+use Rattle.two_ears.proofs.from_match_search.WholeGraphs.{limits_row, whole_graph}
+use Rattle.two_ears.specs.from_match_search.Common.{HasMates, marks, numbers}
 use Rattle.ear_core.proofs.StageMates.{part-matching}
 use Rattle.ear_core.specs.Common.{NamesPart}
 use Rattle.ear_core.proofs.matched.mates_on.Goals as goal

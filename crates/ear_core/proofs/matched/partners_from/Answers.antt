@@ -1,6 +1,6 @@
-use Rattle.counting.proofs.Common.{mem}
-use Rattle.match_core.proofs.HeldMates.{first_mates}
-use Rattle.match_core.proofs.PartnerRows.{missable-partners}
+use Rattle.graph_core.proofs.from_counting.Common.{mem}
+use Rattle.two_ears.proofs.from_match_core.HeldMates.{first_mates}
+use Rattle.two_ears.proofs.from_match_core.PartnerRows.{missable-partners}
 use Rattle.ear_core.proofs.matched.partners_from.Goals as goal
 
 pub returns-clause-row : goal.returns-clause-row

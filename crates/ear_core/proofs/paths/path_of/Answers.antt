@@ -1,4 +1,4 @@
-use Rattle.counting.proofs.Common.{rules, ◌≡◌, ◌∙◌, ◌||◌, ap, sym, subst, true, false, All, arith, ℕ, or_false, Within, mem}
+use Rattle.graph_core.proofs.from_counting.Common.{rules, ◌≡◌, ◌∙◌, ◌||◌, ap, sym, subst, true, false, All, arith, ℕ, or_false, Within, mem}
 use Rattle.graph_core.proofs.Common.{size}
 use Rattle.ear_core.specs.Common.{inner_vertices, last_vertex}
 use Rattle.ear_core.proofs.FirstFaults.{first-item}

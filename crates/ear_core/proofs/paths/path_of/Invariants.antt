@@ -1,4 +1,4 @@
-use Rattle.counting.proofs.Common.{◌≡◌, ◌||◌, ℕ, All, length, Within, mem, none}
+use Rattle.graph_core.proofs.from_counting.Common.{◌≡◌, ◌||◌, ℕ, All, length, Within, mem, none}
 use Rattle.graph_core.proofs.Common.{size}
 use Rattle.ear_core.specs.Common.{last_vertex, is_path, inner_vertices, astray}
 use Rattle.ear_core.proofs.Walking.{goes_on}

@@ -1,5 +1,5 @@
-use Rattle.counting.proofs.Common.{subst, sym, Within}
-use Rattle.match_search.proofs.Instances.{first_in}
+use Rattle.graph_core.proofs.from_counting.Common.{subst, sym, Within}
+use Rattle.two_ears.proofs.from_match_search.Instances.{first_in}
 use Rattle.ear_core.proofs.stage.write_rows.Goals as goal
 
 pub write_row-requires : goal.write_row-requires

@@ -1,4 +1,4 @@
-use Rattle.counting.proofs.Common.{◌≡◌, ℕ, true, false, length, mem, item, Within}
+use Rattle.graph_core.proofs.from_counting.Common.{◌≡◌, ℕ, true, false, length, mem, item, Within}
 use Rattle.ear_core.proofs.stage.write_rows.Given as goal
 
 -- the row is written for the vertices that are not left

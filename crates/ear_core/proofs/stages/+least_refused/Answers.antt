@@ -1,4 +1,4 @@
-use Rattle.counting.proofs.Common.{arith, ◌≡◌, subst, sym, true, Within}
+use Rattle.graph_core.proofs.from_counting.Common.{arith, ◌≡◌, subst, sym, true, Within}
 use Rattle.graph_core.proofs.Common.{size}
 use Rattle.ear_core.specs.Common.{IsAsked, with_edges, asked_too}
 use Rattle.ear_core.proofs.FirstFaults.{first-item, items-behind}

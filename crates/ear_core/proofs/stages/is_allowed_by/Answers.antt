@@ -1,4 +1,4 @@
-use Rattle.counting.proofs.Common.{◌∙◌, sym, true≢false}
+use Rattle.graph_core.proofs.from_counting.Common.{◌∙◌, sym, true≢false}
 use Rattle.ear_core.proofs.MatchedStages.{partners-allowed, row-says, says-row}
 use Rattle.ear_core.proofs.stages.is_allowed_by.Goals as goal
 

@@ -1,5 +1,5 @@
 use Rattle.std.proofs.Common.{rules, ◌≡◌, [], Option, Some, None, arith}
-use Rattle.match_search.specs.Common.{marks}
+use Rattle.two_ears.specs.from_match_search.Common.{marks}
 use Rattle.ear_core.specs.Common.{PlainWhy, ear_fault, step_fault, ear_of, step_of, why_of}
 use Rattle.ear_core.proofs.Marking.{pair-fault}
 use Rattle.ear_core.proofs.steps.fault_of.Goals as goal

@@ -1,5 +1,5 @@
-use Rattle.counting.proofs.Common.{◌≡◌, ◌∙◌, All, ap, ap₂, subst, sym, true, List, ℕ, none}
-use Rattle.match_search.specs.Common.{marks}
+use Rattle.graph_core.proofs.from_counting.Common.{◌≡◌, ◌∙◌, All, ap, ap₂, subst, sym, true, List, ℕ, none}
+use Rattle.two_ears.specs.from_match_search.Common.{marks}
 use Rattle.ear_core.specs.Common.{IsAsked, next_stage, with_edges, ear_of, plain_step, step_of, Settled}
 use Rattle.ear_core.specs.declared.ears.Ear.{Ear}
 use Rattle.ear_core.proofs.Searching.{at-some}

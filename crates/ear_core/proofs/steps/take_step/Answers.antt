@@ -1,6 +1,6 @@
-use Rattle.counting.proofs.Common.{◌≡◌, ◌∙◌, ap, inr, refl, subst, sym, Bool, List, None, ℕ, fun_ext, none}
+use Rattle.graph_core.proofs.from_counting.Common.{◌≡◌, ◌∙◌, ap, inr, refl, subst, sym, Bool, List, None, ℕ, fun_ext, none}
 use Rattle.graph_core.proofs.Common.{size}
-use Rattle.match_search.specs.Common.{marks}
+use Rattle.two_ears.specs.from_match_search.Common.{marks}
 use Rattle.ear_core.specs.Common.{IsAskedBefore, Settled, ear_of, next_stage, step_fault, step_of}
 use Rattle.ear_core.proofs.MatchedStages.{asked-on, first-ear-fits}
 use Rattle.ear_core.proofs.Refusing.{step-none}

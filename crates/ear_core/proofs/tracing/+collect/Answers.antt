@@ -1,6 +1,6 @@
 use Rattle.std.proofs.Common.{rules, ◌≡◌, ◌∙◌, ◌++◌, ◌∷◌, [], ap, arith, subst, true, map, List, ℕ, append-nil}
-use Rattle.counting.proofs.Common.{IfOk-weaker, map-append, mem}
-use Rattle.match_search.specs.Common.{marks}
+use Rattle.graph_core.proofs.from_counting.Common.{IfOk-weaker, map-append, mem}
+use Rattle.two_ears.specs.from_match_search.Common.{marks}
 use Rattle.ear_core.specs.Common.{row_edge, is_left, AreMatedEars, IsTraced, PlainEar, ear_of}
 use Rattle.ear_core.proofs.Following.{IsMade, collected-none, ear-made, ears-more}
 use Rattle.ear_core.proofs.tracing.+collect.Goals as goal

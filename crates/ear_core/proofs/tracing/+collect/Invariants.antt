@@ -1,4 +1,4 @@
-use Rattle.counting.proofs.Common.{count, mem, complement}
+use Rattle.graph_core.proofs.from_counting.Common.{count, mem, complement}
 use Rattle.ear_core.proofs.tracing.+collect.Given as goal
 
 -- fewer vertices are not used

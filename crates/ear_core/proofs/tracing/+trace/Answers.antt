@@ -1,4 +1,4 @@
-use Rattle.counting.proofs.Common.{rules, ◌≡◌, ◌∙◌, ◌++◌, ◌∷◌, [], ap, arith, true, false, List, ℕ, IfOk-weaker, mem}
+use Rattle.graph_core.proofs.from_counting.Common.{rules, ◌≡◌, ◌∙◌, ◌++◌, ◌∷◌, [], ap, arith, true, false, List, ℕ, IfOk-weaker, mem}
 use Rattle.ear_core.specs.Common.{row_edge, IsTraced}
 use Rattle.ear_core.proofs.Mates.{rows-mates}
 use Rattle.ear_core.proofs.Following.{GoesOn, goes-on, passed-by, traced-short}

@@ -1,5 +1,5 @@
-use Rattle.counting.proofs.Common.{◌≡◌, ℕ, false, Within, mem}
-use Rattle.match_search.specs.Common.{marks}
+use Rattle.graph_core.proofs.from_counting.Common.{◌≡◌, ℕ, false, Within, mem}
+use Rattle.two_ears.specs.from_match_search.Common.{marks}
 use Rattle.ear_core.specs.Common.{is_left, row_edge}
 use Rattle.ear_core.proofs.tracing.left_vertex.Given as goal
 

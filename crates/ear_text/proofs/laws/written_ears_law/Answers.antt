@@ -1,4 +1,4 @@
-use Rattle.line_text.proofs.ExactlyOne.{StandsAlone-stands}
+use Rattle.graph_core.proofs.from_line_text.ExactlyOne.{StandsAlone-stands}
 use Rattle.ear_text.specs.EarFormat.{ear_format}
 use Rattle.ear_text.specs.Writing.{ears_text}
 use Rattle.ear_text.proofs.EarsReadBack.{Stands-ears_text}

@@ -1,5 +1,5 @@
 use Rattle.std.proofs.Common.{◌≡◌, ◌++◌, ◌∷◌, length, map, string_bytes, decimal}
-use Rattle.line_text.proofs.WrittenLines.{spaced}
+use Rattle.graph_core.proofs.from_line_text.WrittenLines.{spaced}
 use Rattle.ear_text.proofs.writing.push_ear.Given as goal
 
 -- what is written and the edges left make the whole line

@@ -1,5 +1,5 @@
 use Rattle.std.proofs.Common.{◌≡◌, ◌++◌, length, map, string_bytes}
-use Rattle.line_text.specs.Common.{written}
+use Rattle.graph_core.specs.from_line_text.Common.{written}
 use Rattle.ear_core.specs.Common.{step_of}
 use Rattle.ear_text.specs.Writing.{step_words}
 use Rattle.ear_text.proofs.writing.push_steps.Given as goal

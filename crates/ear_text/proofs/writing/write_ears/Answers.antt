@@ -1,6 +1,6 @@
 use Rattle.std.proofs.Common.{subst, sym, string_bytes, arith}
-use Rattle.line_text.specs.Common.{Stands}
-use Rattle.line_text.proofs.ExactlyOne.{StandsAlone-stands}
+use Rattle.graph_core.specs.from_line_text.Common.{Stands}
+use Rattle.graph_core.proofs.from_line_text.ExactlyOne.{StandsAlone-stands}
 use Rattle.ear_core.specs.Common.{ears_of}
 use Rattle.ear_text.specs.EarFormat.{ear_format}
 use Rattle.ear_text.specs.Writing.{IsWritable}

@@ -1,4 +1,4 @@
-use Rattle.counting.proofs.Common.{◌≡◌, ◌≤◌, count, mem}
+use Rattle.tree_check.proofs.from_counting.Common.{◌≡◌, ◌≤◌, count, mem}
 use Rattle.graph_core.proofs.Common.{in_cut}
 use Rattle.example_order.proofs.widest_cuts.cut_width.Given as goal
 

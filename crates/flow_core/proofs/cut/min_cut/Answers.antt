@@ -1,5 +1,5 @@
 -- A closed search gives the least minimum cut; a flow above the bound rules out each cut within it.
-use Rattle.counting.proofs.Common.{arith, mem}
+use Rattle.vset_core.proofs.from_counting.Common.{arith, mem}
 use Rattle.flow_core.proofs.Duality.{flow-le-value_of}
 use Rattle.flow_core.proofs.cut.min_cut.Goals as goal
 

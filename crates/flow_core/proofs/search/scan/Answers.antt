@@ -1,5 +1,5 @@
 -- Each arc at the node is passed over or taken, by the lemmas on a search that is scanning a row.
-use Rattle.counting.proofs.Common.{sym, ◌∙◌, arith, get_or_read}
+use Rattle.vset_core.proofs.from_counting.Common.{sym, ◌∙◌, arith, get_or_read}
 use Rattle.flow_core.proofs.Scanning.{IsScanning-end, IsTaken, Leads-read, taken-facts}
 use Rattle.flow_core.proofs.search.scan.Goals.{In_ok-push}
 use Rattle.flow_core.proofs.search.scan.Goals as goal

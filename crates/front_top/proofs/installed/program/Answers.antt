@@ -1,5 +1,5 @@
 use Rattle.std.proofs.Common.{◌≡◌, ◌∙◌, None, IfOk, ap, arith, map, string_bytes, subst, sym}
-use Rattle.outside.specs.Common.{IsOpened, OpenState, PrintState, bytes_kept, keeping-notes}
+use Rattle.bench_top.specs.from_outside.Common.{IsOpened, OpenState, PrintState, bytes_kept, keeping-notes}
 use Rattle.front_top.specs.Installed.{EndsOn}
 use Rattle.front_top.proofs.Reported.{ends_from}
 use Rattle.front_top.proofs.installed.program.Goals as goal

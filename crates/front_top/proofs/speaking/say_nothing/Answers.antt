@@ -1,4 +1,4 @@
-use Rattle.outside.specs.declared.sink.SinkFailed.{SinkFailed}
+use Rattle.bench_top.specs.from_outside.declared.sink.SinkFailed.{SinkFailed}
 use Rattle.front_words.proofs.Sayings.{says-none}
 use Rattle.front_top.proofs.speaking.say_nothing.Goals as goal
 

@@ -1,4 +1,4 @@
-use Rattle.counting.proofs.Common.{sym, subst, ap, ◌∙◌, List, ℕ, Bool, not, ◌&&◌, Within, everything, mem, IsRisingIn, rising_list-rises}
+use Rattle.graph_core.proofs.from_counting.Common.{sym, subst, ap, ◌∙◌, List, ℕ, Bool, not, ◌&&◌, Within, everything, mem, IsRisingIn, rising_list-rises}
 use Rattle.graph_core.proofs.Common.{InD, InA}
 use Rattle.gallai_edmonds.proofs.ThreeParts.{listed, rest_listed}
 use Rattle.gallai_edmonds.proofs.three_sets.sets_of.Goals as goal

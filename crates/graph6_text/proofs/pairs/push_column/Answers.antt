@@ -1,4 +1,4 @@
-use Rattle.counting.proofs.Common.{arith, map-append}
+use Rattle.graph_core.proofs.from_counting.Common.{arith, map-append}
 use Rattle.graph6_text.proofs.Columns.{column_more}
 use Rattle.graph6_text.proofs.pairs.push_column.Goals as goal
 

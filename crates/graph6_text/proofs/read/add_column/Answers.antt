@@ -1,4 +1,4 @@
-use Rattle.counting.proofs.Common.{◌+◌, ◌++◌, ◌∙◌, drop, sym, arith, err_from_is_err_and}
+use Rattle.graph_core.proofs.from_counting.Common.{◌+◌, ◌++◌, ◌∙◌, drop, sym, arith, err_from_is_err_and}
 use Rattle.graph6_text.specs.Common.{bits_of, chosen, chosen_one, column}
 use Rattle.graph6_text.proofs.Choosing.{longer_limit}
 use Rattle.graph6_text.proofs.ChosenColumns.{column_read_more, column_chosen_all}

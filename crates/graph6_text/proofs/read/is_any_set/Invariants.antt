@@ -1,4 +1,4 @@
-use Rattle.counting.proofs.Common.{◌≡◌, drop, list_any}
+use Rattle.graph_core.proofs.from_counting.Common.{◌≡◌, drop, list_any}
 use Rattle.graph6_text.specs.Common.{bits_of}
 use Rattle.graph6_text.proofs.read.is_any_set.Given as goal
 

@@ -1,4 +1,4 @@
-use Rattle.counting.proofs.Common.{subst, take, drop, List, ℕ, arith, IfErr-weaker, err_from_is_err_and}
+use Rattle.graph_core.proofs.from_counting.Common.{subst, take, drop, List, ℕ, arith, IfErr-weaker, err_from_is_err_and}
 use Rattle.graph6_text.proofs.Canonical.{simple-graph_of}
 use Rattle.graph6_text.specs.Common.{IsFirstFaultOfRows, faults_of}
 use Rattle.graph6_text.proofs.Passing.{outcome-fault, outcome-graph, is_first-front, is_first-behind, first_fault-append}

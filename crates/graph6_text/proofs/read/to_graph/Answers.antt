@@ -1,4 +1,4 @@
-use Rattle.counting.proofs.Common.{◌≡◌, ◌≤◌, ◌++◌, ◌∙◌, ap, arith, subst, None, true, drop, length, IfErr-weaker, on_ok_weaker, list_all}
+use Rattle.graph_core.proofs.from_counting.Common.{◌≡◌, ◌≤◌, ◌++◌, ◌∙◌, ap, arith, subst, None, true, drop, length, IfErr-weaker, on_ok_weaker, list_all}
 use Rattle.graph6_text.specs.Common.{bits_of, chosen, column_pairs, data_len, data_of, IsFirstFaultOfRows, faults_of, is_digit, limit_row, first_fault}
 use Rattle.graph6_text.proofs.Columns.{length-column_pairs}
 use Rattle.graph6_text.proofs.Passing.{formed, digits-data, padding_row, last_rows, graph-from_bits, is_first-behind, first_fault-append}

@@ -1,4 +1,4 @@
-use Rattle.counting.proofs.Common.{ℕ, List, ◌+◌, ◌++◌, ◌∙◌, ap, arith, drop, length, ◌*◌, err_from_is_err_and}
+use Rattle.graph_core.proofs.from_counting.Common.{ℕ, List, ◌+◌, ◌++◌, ◌∙◌, ap, arith, drop, length, ◌*◌, err_from_is_err_and}
 use Rattle.graph6_text.specs.Common.{bits_of, chosen, column, column_pairs}
 use Rattle.graph6_text.proofs.Choosing.{longer_limit}
 use Rattle.graph6_text.proofs.ChosenColumns.{columns_chosen_front, columns_chosen_more, columns_chosen_none, columns_long}

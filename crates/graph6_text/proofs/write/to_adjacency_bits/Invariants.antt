@@ -1,4 +1,4 @@
-use Rattle.counting.proofs.Common.{◌≡◌, map, take, none}
+use Rattle.graph_core.proofs.from_counting.Common.{◌≡◌, map, take, none}
 use Rattle.graph_core.proofs.Common.{pair_of, adjacent}
 use Rattle.graph6_text.specs.Common.{column_pairs}
 use Rattle.graph6_text.proofs.write.to_adjacency_bits.Given as goal

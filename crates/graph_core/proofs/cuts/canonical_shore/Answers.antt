@@ -1,4 +1,4 @@
-use Rattle.counting.proofs.Common.{sym, ◌∙◌, mem}
+use Rattle.vset_core.proofs.from_counting.Common.{sym, ◌∙◌, mem}
 use Rattle.graph_core.proofs.CutLists.{canonical-kept, canonical-turned}
 use Rattle.graph_core.proofs.cuts.canonical_shore.Goals.{then-contains, else-contains}
 use Rattle.graph_core.proofs.cuts.canonical_shore.Goals as goal

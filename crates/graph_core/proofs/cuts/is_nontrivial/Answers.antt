@@ -1,4 +1,4 @@
-use Rattle.counting.proofs.Common.{◌≡◌, sym, ap, ◌∙◌, nat_le, ◌&&◌, Bool, false, arith, le-leb, lt-leb}
+use Rattle.vset_core.proofs.from_counting.Common.{◌≡◌, sym, ap, ◌∙◌, nat_le, ◌&&◌, Bool, false, arith, le-leb, lt-leb}
 use Rattle.graph_core.proofs.CutLists.{length-in, nontrivial-length}
 use Rattle.graph_core.proofs.cuts.is_nontrivial.Goals as goal
 

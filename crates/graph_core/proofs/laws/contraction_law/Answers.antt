@@ -1,4 +1,4 @@
-use Rattle.counting.proofs.Common.{member-of_set, mem-within}
+use Rattle.vset_core.proofs.from_counting.Common.{member-of_set, mem-within}
 use Rattle.graph_core.proofs.MergedShores.{covered_merged, tight_up_merged, tight_down_merged}
 use Rattle.graph_core.proofs.ShoreLists.{shore-some}
 use Rattle.graph_core.proofs.laws.contraction_law.Goals as goal

@@ -1,4 +1,4 @@
-use Rattle.counting.proofs.Common.{member-of_set, mem-within}
+use Rattle.vset_core.proofs.from_counting.Common.{member-of_set, mem-within}
 use Rattle.graph_core.proofs.MergeOrder.{merged_blocks}
 use Rattle.graph_core.proofs.Merging.{merged_merges}
 use Rattle.graph_core.proofs.laws.merge_law.Goals as goal

@@ -1,4 +1,4 @@
-use Rattle.counting.proofs.Common.{subst, sym, none}
+use Rattle.vset_core.proofs.from_counting.Common.{subst, sym, none}
 use Rattle.graph_core.proofs.SingleBlocks.{contracted-singles, singles-tight, tight-singles}
 use Rattle.graph_core.proofs.Singles.{singles-partition}
 use Rattle.graph_core.specs.Common.{IsPerfect}

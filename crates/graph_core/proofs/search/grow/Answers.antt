@@ -1,4 +1,4 @@
-use Rattle.counting.proofs.Common.{◌≡◌, ℕ, length, true, ◌==◌, ap, sym, ◌∙◌, arith, List, both_ways, false_from_ne_true, or_false, Within, mem}
+use Rattle.vset_core.proofs.from_counting.Common.{◌≡◌, ℕ, length, true, ◌==◌, ap, sym, ◌∙◌, arith, List, both_ways, false_from_ne_true, or_false, Within, mem}
 use Rattle.graph_core.specs.Common.{Graph, IsGrowth, parent_at, depth_at}
 use Rattle.graph_core.specs.declared.tree.TreeNode.{TreeNode}
 use Rattle.graph_core.proofs.OneVertexLess.{count_lost, count_gained}

@@ -1,4 +1,4 @@
-use Rattle.counting.proofs.Common.{◌≡◌, ◌+◌, ◌*◌, ℕ, length, false, Within, count, mem}
+use Rattle.vset_core.proofs.from_counting.Common.{◌≡◌, ◌+◌, ◌*◌, ℕ, length, false, Within, count, mem}
 use Rattle.graph_core.specs.Common.{Graph, IsGraph, IsGrowth, node_at, parent_at, depth_at, AreRows}
 use Rattle.graph_core.proofs.search.grow.Given as goal
 

@@ -1,4 +1,4 @@
-use Rattle.counting.proofs.Common.{◌≡◌, ◌&&◌, ℕ, Bool, [], ◌∷◌, true, length, not, ap, sym, ◌∙◌, subst, arith, not_from_false, and_false, and_from, and_parts, count_more, not-true, set-narrower, mem}
+use Rattle.vset_core.proofs.from_counting.Common.{◌≡◌, ◌&&◌, ℕ, Bool, [], ◌∷◌, true, length, not, ap, sym, ◌∙◌, subst, arith, not_from_false, and_false, and_from, and_parts, count_more, not-true, set-narrower, mem}
 use Rattle.graph_core.proofs.FloodedComponents.{flood-joined}
 use Rattle.graph_core.proofs.FoundComponents.{AreFirst, parts_start, parts_step, parts_end}
 use Rattle.graph_core.proofs.search.parts_without.Goals.{After-minus-left-in-Some}

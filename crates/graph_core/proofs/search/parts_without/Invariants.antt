@@ -1,4 +1,4 @@
-use Rattle.counting.proofs.Common.{length, count, mem}
+use Rattle.vset_core.proofs.from_counting.Common.{length, count, mem}
 use Rattle.graph_core.specs.Common.{Graph, IsGraph, AreRows}
 use Rattle.graph_core.proofs.FoundComponents.{AreFirst}
 use Rattle.graph_core.proofs.search.parts_without.Given as goal

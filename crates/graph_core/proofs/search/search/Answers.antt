@@ -1,4 +1,4 @@
-use Rattle.counting.proofs.Common.{◌<◌, not, ap, sym, ◌∙◌, subst, arith, not_from_false, and_from, and_parts, not-true, set-narrower, count, mem}
+use Rattle.vset_core.proofs.from_counting.Common.{◌<◌, not, ap, sym, ◌∙◌, subst, arith, not_from_false, and_from, and_parts, not-true, set-narrower, count, mem}
 use Rattle.graph_core.specs.Common.{IsComponentStage, parent_at, depth_at}
 use Rattle.graph_core.specs.declared.tree.TreeNode.{TreeNode}
 use Rattle.graph_core.proofs.FoundVertices.{grown_less}

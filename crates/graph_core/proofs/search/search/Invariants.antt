@@ -1,4 +1,4 @@
-use Rattle.counting.proofs.Common.{length, count, mem}
+use Rattle.vset_core.proofs.from_counting.Common.{length, count, mem}
 use Rattle.graph_core.specs.Common.{Graph, IsGraph, IsComponentStage, parent_at, depth_at, AreRows}
 use Rattle.graph_core.proofs.search.search.Given as goal
 

@@ -1,4 +1,4 @@
-use Rattle.counting.proofs.Common.{true, arith, length, get_or_default, cases_eq, true≢false}
+use Rattle.vset_core.proofs.from_counting.Common.{true, arith, length, get_or_default, cases_eq, true≢false}
 use Rattle.graph_core.proofs.View.{ends_within}
 use Rattle.graph_core.proofs.sides.level_edge.Goals as goal
 

@@ -1,4 +1,4 @@
-use Rattle.counting.proofs.Common.{◌≡◌, ◌<◌, ℕ, not, get_or, is_odd}
+use Rattle.vset_core.proofs.from_counting.Common.{◌≡◌, ◌<◌, ℕ, not, get_or, is_odd}
 use Rattle.graph_core.specs.Common.{depth_at}
 use Rattle.graph_core.specs.declared.ends.Ends.{Ends}
 use Rattle.graph_core.proofs.sides.level_edge.Given as goal

@@ -1,4 +1,4 @@
-use Rattle.counting.proofs.Common.{◌≡◌, ◌∷◌, ◌++◌, sym, length, subst, not, List, All, Contains, arith, is_odd, rising_list, none}
+use Rattle.vset_core.proofs.from_counting.Common.{◌≡◌, ◌∷◌, ◌++◌, sym, length, subst, not, List, All, Contains, arith, is_odd, rising_list, none}
 use Rattle.graph_core.specs.Common.{is_least, IsGraph, depth_at, is_even_at, parent_at, IsLeftSide, IsForest, way_down, way_up, graph_of, IsOddClosedWalk}
 use Rattle.graph_core.specs.declared.ends.Ends.{Ends}
 use Rattle.graph_core.specs.declared.tree.TreeNode.{TreeNode}

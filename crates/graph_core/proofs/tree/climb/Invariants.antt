@@ -1,4 +1,4 @@
-use Rattle.counting.proofs.Common.{◌≡◌, ◌++◌, length, Within}
+use Rattle.vset_core.proofs.from_counting.Common.{◌≡◌, ◌++◌, length, Within}
 use Rattle.graph_core.specs.Common.{parent_at, depth_at, way_up}
 use Rattle.graph_core.proofs.tree.climb.Given as goal
 

@@ -1,4 +1,4 @@
-use Rattle.counting.proofs.Common.{◌≡◌, rising_list}
+use Rattle.vset_core.proofs.from_counting.Common.{◌≡◌, rising_list}
 use Rattle.graph_core.specs.Common.{is_even_at}
 use Rattle.graph_core.proofs.tree.even_vertices.Given as goal
 

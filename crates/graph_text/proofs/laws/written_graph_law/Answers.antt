@@ -1,4 +1,4 @@
-use Rattle.line_text.proofs.ExactlyOne.{StandsAlone-stands}
+use Rattle.graph_core.proofs.from_line_text.ExactlyOne.{StandsAlone-stands}
 use Rattle.graph_text.specs.Common.{version_one, graph_text}
 use Rattle.graph_text.proofs.VersionOneReadBack.{Stands-graph_text}
 use Rattle.graph_text.proofs.laws.written_graph_law.Goals as goal

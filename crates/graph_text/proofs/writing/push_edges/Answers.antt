@@ -1,5 +1,5 @@
 use Rattle.std.proofs.Common.{◌++◌, [], ◌∷◌, ap, string_bytes, arith, ◌∙◌}
-use Rattle.line_text.specs.Common.{written}
+use Rattle.graph_core.specs.from_line_text.Common.{written}
 use Rattle.graph_text.specs.Common.{edge_words}
 use Rattle.graph_text.proofs.TextSoFar.{ends-next, lines-more}
 use Rattle.graph_text.proofs.writing.push_edges.Goals as goal

@@ -1,5 +1,5 @@
 use Rattle.std.proofs.Common.{◌≡◌, ◌++◌, map, take, string_bytes}
-use Rattle.line_text.specs.Common.{written}
+use Rattle.graph_core.specs.from_line_text.Common.{written}
 use Rattle.graph_text.specs.Common.{named_edge_words}
 use Rattle.graph_text.proofs.writing.push_named_edges.Given as goal
 

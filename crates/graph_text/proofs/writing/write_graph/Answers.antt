@@ -1,7 +1,7 @@
 use Rattle.std.proofs.Common.{subst, sym, string_bytes, arith}
-use Rattle.line_text.specs.Common.{Stands}
+use Rattle.graph_core.specs.from_line_text.Common.{Stands}
 use Rattle.graph_text.specs.Common.{version_one, FitsVersionOne}
-use Rattle.line_text.proofs.ExactlyOne.{StandsAlone-stands}
+use Rattle.graph_core.proofs.from_line_text.ExactlyOne.{StandsAlone-stands}
 use Rattle.graph_text.proofs.TextSoFar.{graph_text-lines}
 use Rattle.graph_text.proofs.VersionOneReadBack.{Stands-graph_text}
 use Rattle.graph_text.proofs.writing.write_graph.Goals as goal

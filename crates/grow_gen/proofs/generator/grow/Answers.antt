@@ -1,4 +1,4 @@
-use Rattle.counting.proofs.Common.{◌≡◌, ℕ, suc, ◌+◌, ◌-◌, ◌≤◌, ◌<◌, ap, ap₂, sym, ◌∙◌, arith, subst, IfOk-weaker}
+use Rattle.graph_core.proofs.from_counting.Common.{◌≡◌, ℕ, suc, ◌+◌, ◌-◌, ◌≤◌, ◌<◌, ap, ap₂, sym, ◌∙◌, arith, subst, IfOk-weaker}
 use Rattle.rand_pcg.specs.Lcg.{Lcg}
 use Rattle.rand_pcg.specs.Pcg.{pcg32}
 use Rattle.grow_gen.specs.Common.{further_piece, growth_of, Growth, growth_from, grown, with_piece, IsCubic}

@@ -1,4 +1,4 @@
-use Rattle.counting.proofs.Common.{◌≡◌, ◌==◌, ◌&&◌, ◌||◌, not, map, take, ap, ◌∙◌, arith, take_all, mem}
+use Rattle.graph_core.proofs.from_counting.Common.{◌≡◌, ◌==◌, ◌&&◌, ◌||◌, not, map, take, ap, ◌∙◌, arith, take_all, mem}
 use Rattle.grow_gen.specs.Common.{side, new_number}
 use Rattle.grow_gen.proofs.Skeleton.{next_class-rising, mem-image_more}
 use Rattle.grow_gen.proofs.growing.next_class.Goals as goal

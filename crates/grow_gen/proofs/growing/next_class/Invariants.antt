@@ -1,4 +1,4 @@
-use Rattle.counting.proofs.Common.{◌≡◌, ℕ, ◌==◌, ◌&&◌, ◌||◌, not, take, map, mem}
+use Rattle.graph_core.proofs.from_counting.Common.{◌≡◌, ℕ, ◌==◌, ◌&&◌, ◌||◌, not, take, map, mem}
 use Rattle.grow_gen.specs.Common.{new_number}
 use Rattle.grow_gen.proofs.growing.next_class.Given as goal
 

@@ -1,4 +1,4 @@
-use Rattle.counting.proofs.Common.{◌≡◌, ◌∙◌, ◌+◌, ◌<◌, ◌++◌, ◌∷◌, [], ℕ, false, not, cond, List, length, map, filter, take, get_or, ap, append_assoc, ne_eqb, arith, filter_more, map-append}
+use Rattle.graph_core.proofs.from_counting.Common.{◌≡◌, ◌∙◌, ◌+◌, ◌<◌, ◌++◌, ◌∷◌, [], ℕ, false, not, cond, List, length, map, filter, take, get_or, ap, append_assoc, ne_eqb, arith, filter_more, map-append}
 use Rattle.graph_core.proofs.Common.{pair_of}
 use Rattle.grow_gen.specs.Common.{is_at, renumbered_edge}
 use Rattle.grow_gen.proofs.splices.append_kept.Goals.{then-a-ne1+then-b-ne1+in_ok-push, else-a-ne1}

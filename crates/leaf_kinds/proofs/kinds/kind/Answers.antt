@@ -1,4 +1,4 @@
-use Rattle.counting.proofs.Common.{◌≡◌, ◌∙◌, subst, IfOk-weaker}
+use Rattle.graph_core.proofs.from_counting.Common.{◌≡◌, ◌∙◌, subst, IfOk-weaker}
 use Rattle.graph_core.proofs.Common.{Graph}
 use Rattle.graph_core.specs.declared.verdict.Kind.{Kind}
 use Rattle.graph_core.specs.declared.verdict.Kind.TheVariants.{Brick}

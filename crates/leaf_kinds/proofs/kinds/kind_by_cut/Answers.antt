@@ -1,4 +1,4 @@
-use Rattle.counting.proofs.Common.{◌∙◌, sym, both_ways}
+use Rattle.graph_core.proofs.from_counting.Common.{◌∙◌, sym, both_ways}
 use Rattle.leaf_kinds.proofs.kinds.kind_by_cut.Goals as goal
 
 pub returns-in-Some-clause-kind : goal.returns-in-Some-clause-kind

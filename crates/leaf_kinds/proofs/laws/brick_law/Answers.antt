@@ -1,5 +1,5 @@
-use Rattle.barrier_kit.proofs.Common.{bicritical, four_vertices, no_sides}
-use Rattle.separation_kit.proofs.CutPairs.{no_cut_pair}
+use Rattle.tight_cuts.proofs.from_barrier_kit.Common.{bicritical, four_vertices, no_sides}
+use Rattle.tight_cuts.proofs.from_separation_kit.CutPairs.{no_cut_pair}
 use Rattle.leaf_kinds.proofs.laws.brick_law.Goals as goal
 
 pub returns : goal.returns

@@ -1,4 +1,4 @@
-use Rattle.counting.proofs.Common.{◌≡◌, take, filter, mem}
+use Rattle.graph_core.proofs.from_counting.Common.{◌≡◌, take, filter, mem}
 use Rattle.match_core.specs.Common.{is_clear}
 use Rattle.match_core.proofs.matching.clear_rows.Given as goal
 

@@ -1,4 +1,4 @@
-use Rattle.counting.proofs.Common.{◌≡◌, Bool, false, ◌||◌, ◌==◌, ◌∷◌, [], sym, ap, ◌∙◌, get_or, take, map, arith, take_more, map-append, mem-append, mem}
+use Rattle.graph_core.proofs.from_counting.Common.{◌≡◌, Bool, false, ◌||◌, ◌==◌, ◌∷◌, [], sym, ap, ◌∙◌, get_or, take, map, arith, take_more, map-append, mem-append, mem}
 use Rattle.match_search.specs.Common.{marks}
 use Rattle.match_core.specs.declared.matching.MatchRow.{MatchRow}
 use Rattle.match_search.proofs.GrownRows.{with_put}

@@ -1,4 +1,4 @@
-use Rattle.counting.proofs.Common.{◌≡◌, ℕ, length, take, map, ◌||◌, mem}
+use Rattle.graph_core.proofs.from_counting.Common.{◌≡◌, ℕ, length, take, map, ◌||◌, mem}
 use Rattle.match_search.specs.Common.{marks}
 use Rattle.match_core.proofs.MatchingEdges.{edge_of}
 use Rattle.match_core.proofs.matching.mark_rows.Given as goal

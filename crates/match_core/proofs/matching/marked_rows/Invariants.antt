@@ -1,4 +1,4 @@
-use Rattle.counting.proofs.Common.{◌≡◌, map, rising_list}
+use Rattle.graph_core.proofs.from_counting.Common.{◌≡◌, map, rising_list}
 use Rattle.graph_core.proofs.Common.{graph_of}
 use Rattle.match_search.specs.Common.{marks}
 use Rattle.match_core.specs.Common.{row_at}

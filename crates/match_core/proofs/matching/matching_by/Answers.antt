@@ -1,4 +1,4 @@
-use Rattle.counting.proofs.Common.{◌≡◌, sym, ap, ◌∙◌, subst, mem, mem-rising_list}
+use Rattle.graph_core.proofs.from_counting.Common.{◌≡◌, sym, ap, ◌∙◌, subst, mem, mem-rising_list}
 use Rattle.graph_core.proofs.Common.{Graph, size}
 use Rattle.match_search.specs.Common.{numbers}
 use Rattle.match_search.proofs.WholeGraphs.{limits_row, whole_graph}

@@ -1,4 +1,4 @@
-use Rattle.counting.proofs.Common.{◌≡◌, ℕ, suc, ◌+◌, ◌++◌, ◌∷◌, [], ◌==◌, ◌||◌, true, refl, sym, ap, ap₂, ◌∙◌, subst, map, arith, eq-eqb, both_ways, rising_list, rising_list-congr, none, put, Set, Within, mem}
+use Rattle.graph_core.proofs.from_counting.Common.{◌≡◌, ℕ, suc, ◌+◌, ◌++◌, ◌∷◌, [], ◌==◌, ◌||◌, true, refl, sym, ap, ap₂, ◌∙◌, subst, map, arith, eq-eqb, both_ways, rising_list, rising_list-congr, none, put, Set, Within, mem}
 use Rattle.graph_core.proofs.Common.{graph_of}
 use Rattle.match_search.specs.Common.{MarksMates, numbers, end_a, end_b}
 use Rattle.match_search.proofs.AlternatingPaths.{put_at, put_off}

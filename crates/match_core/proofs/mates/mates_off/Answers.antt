@@ -1,4 +1,4 @@
-use Rattle.counting.proofs.Common.{arith, with_items_is, mem}
+use Rattle.graph_core.proofs.from_counting.Common.{arith, with_items_is, mem}
 use Rattle.match_core.proofs.RowMates.{named_rows}
 use Rattle.match_core.proofs.mates.mates_off.Goals as goal
 

@@ -1,4 +1,4 @@
-use Rattle.counting.proofs.Common.{◌≡◌, length, mem}
+use Rattle.graph_core.proofs.from_counting.Common.{◌≡◌, length, mem}
 use Rattle.match_core.specs.HeldMates.{NamesRows}
 use Rattle.match_core.proofs.mates.write_rows.Given as goal
 

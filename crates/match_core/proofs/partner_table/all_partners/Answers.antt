@@ -1,4 +1,4 @@
-use Rattle.counting.proofs.Common.{List, ℕ, subst, IfOk-weaker, mem, none}
+use Rattle.graph_core.proofs.from_counting.Common.{List, ℕ, subst, IfOk-weaker, mem, none}
 use Rattle.match_core.specs.Common.{ArePartners}
 use Rattle.match_core.proofs.partner_table.all_partners.Goals as goal
 

@@ -1,4 +1,4 @@
-use Rattle.counting.proofs.Common.{◌≡◌, ap, ◌∙◌, arith, fun_ext, mem}
+use Rattle.graph_core.proofs.from_counting.Common.{◌≡◌, ap, ◌∙◌, arith, fun_ext, mem}
 use Rattle.match_core.specs.Common.{edges_of}
 use Rattle.match_search.specs.Common.{marks}
 use Rattle.match_search.proofs.WholeGraphs.{ends_rows, limits_row}

@@ -1,4 +1,4 @@
-use Rattle.counting.proofs.Common.{◌-◌, arith, count_le}
+use Rattle.graph_core.proofs.from_counting.Common.{◌-◌, arith, count_le}
 use Rattle.match_search.specs.Common.{marks}
 use Rattle.match_core.proofs.partner_table.marked_count.Goals as goal
 

@@ -1,4 +1,4 @@
-use Rattle.counting.proofs.Common.{sym, ◌∙◌, IfOk-weaker, mem}
+use Rattle.graph_core.proofs.from_counting.Common.{sym, ◌∙◌, IfOk-weaker, mem}
 use Rattle.match_core.specs.Common.{AreEmptyRows, ArePartners}
 use Rattle.match_core.proofs.PartnerRows.{empty-partners}
 use Rattle.match_core.proofs.partner_table.partners.Goals as goal

@@ -1,4 +1,4 @@
-use Rattle.counting.proofs.Common.{sym, ◌∙◌, IfOk-weaker, mem}
+use Rattle.graph_core.proofs.from_counting.Common.{sym, ◌∙◌, IfOk-weaker, mem}
 use Rattle.match_core.proofs.PartnerRows.{missable-partners}
 use Rattle.match_core.proofs.partner_table.partners_of.Goals as goal
 

@@ -1,4 +1,4 @@
-use Rattle.counting.proofs.Common.{◌≡◌, ℕ, List, true, sym, subst, arith, rules, Within, mem}
+use Rattle.graph_core.proofs.from_counting.Common.{◌≡◌, ℕ, List, true, sym, subst, arith, rules, Within, mem}
 use Rattle.match_search.specs.Common.{ServesRows}
 use Rattle.match_core.specs.Common.{are_partners}
 use Rattle.match_core.proofs.HeldMates.{each_more, first_mates, mates_alike}

@@ -1,4 +1,4 @@
-use Rattle.counting.proofs.Common.{◌≡◌, ℕ, true, length, Within, item, mem}
+use Rattle.graph_core.proofs.from_counting.Common.{◌≡◌, ℕ, true, length, Within, item, mem}
 use Rattle.match_core.specs.Common.{HoldsMates, are_partners}
 use Rattle.match_search.specs.Common.{ServesRows}
 use Rattle.match_core.proofs.partner_table.rows_from.Given as goal

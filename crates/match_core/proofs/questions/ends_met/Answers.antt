@@ -1,4 +1,4 @@
-use Rattle.counting.proofs.Common.{◌≡◌, ◌-◌, ◌==◌, ◌||◌, true, false, refl, sym, subst, ap, ◌∙◌, arith, eq-eqb, length, get_or, both_ways, mem-item, fun_ext, bit, Set, none, put, mem}
+use Rattle.graph_core.proofs.from_counting.Common.{◌≡◌, ◌-◌, ◌==◌, ◌||◌, true, false, refl, sym, subst, ap, ◌∙◌, arith, eq-eqb, length, get_or, both_ways, mem-item, fun_ext, bit, Set, none, put, mem}
 use Rattle.graph_core.proofs.Common.{degree, perfect_matching}
 use Rattle.match_search.specs.Common.{marks, end_a, end_b, MeetOnce}
 use Rattle.match_search.proofs.GrownRows.{with_put}

@@ -1,4 +1,4 @@
-use Rattle.counting.proofs.Common.{◌≡◌, Bool, Vec, Global, sym, subst, ◌∙◌, refl, or_right, fun_ext, Set, none, minus, union, mem}
+use Rattle.graph_core.proofs.from_counting.Common.{◌≡◌, Bool, Vec, Global, sym, subst, ◌∙◌, refl, or_right, fun_ext, Set, none, minus, union, mem}
 use Rattle.graph_core.proofs.Common.{IsPerfect}
 use Rattle.match_search.specs.Common.{marks}
 use Rattle.match_search.proofs.Gluing.{glued, cut_off}

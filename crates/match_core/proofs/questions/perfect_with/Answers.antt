@@ -1,4 +1,4 @@
-use Rattle.counting.proofs.Common.{◌≡◌, sym, ap, ◌∙◌, subst, mem, Within, none, rising_holds}
+use Rattle.graph_core.proofs.from_counting.Common.{◌≡◌, sym, ap, ◌∙◌, subst, mem, Within, none, rising_holds}
 use Rattle.graph_core.proofs.Common.{size, IsPerfect}
 use Rattle.match_search.specs.Common.{marks}
 use Rattle.match_core.specs.Common.{edges_of, MatchingValue}

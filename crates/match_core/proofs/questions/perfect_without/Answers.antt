@@ -1,4 +1,4 @@
-use Rattle.counting.proofs.Common.{◌≡◌, subst, mem}
+use Rattle.graph_core.proofs.from_counting.Common.{◌≡◌, subst, mem}
 use Rattle.graph_core.proofs.Common.{IsPerfect}
 use Rattle.match_core.specs.Common.{edges_of, MatchingValue}
 use Rattle.match_core.proofs.FrameFacts.{passed_matching, listed_perfect}

@@ -1,4 +1,4 @@
-use Rattle.counting.proofs.Common.{◌≡◌, ℕ, ◌&&◌, ◌==◌, not, nat_lt, nat_le, mem}
+use Rattle.graph_core.proofs.from_counting.Common.{◌≡◌, ℕ, ◌&&◌, ◌==◌, not, nat_lt, nat_le, mem}
 use Rattle.match_search.specs.Common.{numbers}
 use Rattle.match_core.proofs.repairs.free.Given as goal
 

@@ -1,4 +1,4 @@
-use Rattle.counting.proofs.Common.{◌≡◌, ℕ, suc, ◌+◌, ◌==◌, ◌&&◌, not, Bool, true, false, List, slice_index_or, eq-eqb, eqb-true, sym, ap, ap₂, ◌∙◌, subst, subst₂, arith, with_items_is, both_ways}
+use Rattle.graph_core.proofs.from_counting.Common.{◌≡◌, ℕ, suc, ◌+◌, ◌==◌, ◌&&◌, not, Bool, true, false, List, slice_index_or, eq-eqb, eqb-true, sym, ap, ap₂, ◌∙◌, subst, subst₂, arith, with_items_is, both_ways}
 use Rattle.graph_core.specs.declared.ends.Ends.{Ends}
 use Rattle.match_search.specs.Common.{numbers, with_mate}
 use Rattle.match_search.proofs.GreedyMates.{no-mates}

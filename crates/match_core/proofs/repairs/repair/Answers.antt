@@ -1,4 +1,4 @@
-use Rattle.counting.proofs.Common.{◌≡◌, sym, ap, ap₂, ◌∙◌, subst, subst₂, arith, fun_ext, mem, Set}
+use Rattle.graph_core.proofs.from_counting.Common.{◌≡◌, sym, ap, ap₂, ◌∙◌, subst, subst₂, arith, fun_ext, mem, Set}
 use Rattle.graph_core.proofs.Common.{Graph, IsMatching, missed_count}
 use Rattle.match_search.specs.Common.{marks, DiffersByPath}
 use Rattle.match_core.specs.Common.{edges_of, MatchingValue}

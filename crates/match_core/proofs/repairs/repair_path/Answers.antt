@@ -1,4 +1,4 @@
-use Rattle.counting.proofs.Common.{ℕ, ◌==◌, ◌&&◌, not, nat_lt, nat_le, List, length, sym, ap, ◌∙◌, subst, arith, IfOk-weaker, mem, Set}
+use Rattle.graph_core.proofs.from_counting.Common.{ℕ, ◌==◌, ◌&&◌, not, nat_lt, nat_le, List, length, sym, ap, ◌∙◌, subst, arith, IfOk-weaker, mem, Set}
 use Rattle.graph_core.proofs.Common.{graph_of}
 use Rattle.match_search.specs.Common.{NamesEdges, marks, numbers, IsRepairRow, Misses}
 use Rattle.match_core.specs.Common.{StartsWalk}

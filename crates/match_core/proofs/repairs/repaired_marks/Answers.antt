@@ -1,4 +1,4 @@
-use Rattle.counting.proofs.Common.{◌≡◌, ℕ, ◌+◌, ◌-◌, ◌/◌, Bool, true, List, length, sym, ap, ◌∙◌, subst, fun_ext, Set, put, mem}
+use Rattle.graph_core.proofs.from_counting.Common.{◌≡◌, ℕ, ◌+◌, ◌-◌, ◌/◌, Bool, true, List, length, sym, ap, ◌∙◌, subst, fun_ext, Set, put, mem}
 use Rattle.graph_core.proofs.Common.{IsPerfect, graph_of}
 use Rattle.match_search.specs.Common.{flipped, marks, numbers, part, DiffersByPath, IsRepairRow, Misses}
 use Rattle.match_search.proofs.GraphRows.{row_graph}

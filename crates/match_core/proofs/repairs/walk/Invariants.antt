@@ -1,4 +1,4 @@
-use Rattle.counting.proofs.Common.{ℕ, ◌+◌, ◌-◌, length, Set}
+use Rattle.graph_core.proofs.from_counting.Common.{ℕ, ◌+◌, ◌-◌, length, Set}
 use Rattle.graph_core.proofs.Common.{graph_of}
 use Rattle.match_search.specs.Common.{IsWalk}
 use Rattle.match_core.specs.Common.{StartsWalk}

@@ -1,4 +1,4 @@
-use Rattle.counting.proofs.Common.{◌≡◌, ℕ, true, ◌⊎◌, length, mem}
+use Rattle.graph_core.proofs.from_counting.Common.{◌≡◌, ℕ, true, ◌⊎◌, length, mem}
 use Rattle.match_search.specs.Common.{numbers}
 use Rattle.match_search.proofs.alternating.exposed_in.Given as goal
 

@@ -1,4 +1,4 @@
-use Rattle.counting.proofs.Common.{◌-◌, ◌∙◌, sym, rules, arith, subst, length, mem}
+use Rattle.graph_core.proofs.from_counting.Common.{◌-◌, ◌∙◌, sym, rules, arith, subst, length, mem}
 use Rattle.match_search.specs.Common.{IsClosed, removed_with, without_blossom, numbers}
 use Rattle.match_search.proofs.BlossomMates.{cw}
 use Rattle.match_search.proofs.Instances.{alike_self, put_back}

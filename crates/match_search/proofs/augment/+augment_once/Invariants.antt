@@ -1,4 +1,4 @@
-use Rattle.counting.proofs.Common.{length, count, mem}
+use Rattle.graph_core.proofs.from_counting.Common.{length, count, mem}
 use Rattle.match_search.proofs.augment.+augment_once.Given as goal
 
 abbrev pub decreases-augment_once : goal.decreases-augment_once

@@ -1,4 +1,4 @@
-use Rattle.counting.proofs.Common.{IfOk-weaker, Set}
+use Rattle.graph_core.proofs.from_counting.Common.{IfOk-weaker, Set}
 use Rattle.graph_core.proofs.Common.{Graph}
 use Rattle.match_search.specs.Common.{AreClosingPaths, ClosesForest, IsClosed}
 use Rattle.match_search.proofs.augment.close_bridge.Goals as goal

@@ -1,4 +1,4 @@
-use Rattle.counting.proofs.Common.{◌≡◌, ℕ, List, sym, ap, subst, ◌+◌, ◌∙◌, with_items_is, mem}
+use Rattle.graph_core.proofs.from_counting.Common.{◌≡◌, ℕ, List, sym, ap, subst, ◌+◌, ◌∙◌, with_items_is, mem}
 use Rattle.graph_core.proofs.Common.{graph_of}
 use Rattle.match_search.specs.Common.{HasMates, marks, numbers}
 use Rattle.match_search.proofs.AugmentedMates.{framed_best}

@@ -1,4 +1,4 @@
-use Rattle.counting.proofs.Common.{arith, sym, ◌∙◌, both_ways, IfOk-weaker, mem, Set}
+use Rattle.graph_core.proofs.from_counting.Common.{arith, sym, ◌∙◌, both_ways, IfOk-weaker, mem, Set}
 use Rattle.graph_core.proofs.Common.{Graph, IsGraph, AreRows}
 use Rattle.match_search.specs.Common.{HasFrame, HasMates, HoldsMatching, numbers}
 use Rattle.match_search.proofs.GreedyMates.{empty-mem, empty_frame}

@@ -1,4 +1,4 @@
-use Rattle.counting.proofs.Common.{◌≡◌, ℕ, List, ◌+◌, sym, ap, subst, ◌∙◌, Set, mem}
+use Rattle.graph_core.proofs.from_counting.Common.{◌≡◌, ℕ, List, ◌+◌, sym, ap, subst, ◌∙◌, Set, mem}
 use Rattle.graph_core.proofs.Common.{Graph}
 use Rattle.match_search.specs.Common.{HasMates, marks, numbers}
 use Rattle.match_search.proofs.AugmentedMates.{framed_best}

@@ -1,4 +1,4 @@
-use Rattle.counting.proofs.Common.{rules, ◌≡◌, ℕ, suc, ◌+◌, ◌==◌, ◌||◌, true, refl, sym, ap, ◌∙◌, arith, inl, eq-eqb, length, List, with_items_is, both_ways, none, put, mem}
+use Rattle.graph_core.proofs.from_counting.Common.{rules, ◌≡◌, ℕ, suc, ◌+◌, ◌==◌, ◌||◌, true, refl, sym, ap, ◌∙◌, arith, inl, eq-eqb, length, List, with_items_is, both_ways, none, put, mem}
 use Rattle.graph_core.proofs.Common.{graph_of}
 use Rattle.match_search.specs.Common.{numbers, end_a, end_b, with_pair}
 use Rattle.match_search.proofs.ClosingPairs.{mates_alike}

@@ -1,4 +1,4 @@
-use Rattle.counting.proofs.Common.{◌≡◌, ℕ, ◌+◌, false, length, Within, Set, mem}
+use Rattle.graph_core.proofs.from_counting.Common.{◌≡◌, ℕ, ◌+◌, false, length, Within, Set, mem}
 use Rattle.graph_core.proofs.Common.{degree, graph_of}
 use Rattle.match_search.specs.Common.{HasMates, numbers}
 use Rattle.match_search.proofs.best.first_pairs.Given as goal

@@ -1,4 +1,4 @@
-use Rattle.counting.proofs.Common.{◌<◌, ◌==◌, ◌&&◌, arith, sym, ap, subst, ◌∙◌, count, mem}
+use Rattle.graph_core.proofs.from_counting.Common.{◌<◌, ◌==◌, ◌&&◌, arith, sym, ap, subst, ◌∙◌, count, mem}
 use Rattle.match_search.specs.Common.{IsMateStep, Frame, numbers}
 use Rattle.match_search.proofs.AugmentedMates.{fewer_left, held_again, left_is}
 use Rattle.match_search.proofs.Instances.{alike_then, left_parts}

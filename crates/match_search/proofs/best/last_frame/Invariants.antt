@@ -1,4 +1,4 @@
-use Rattle.counting.proofs.Common.{◌==◌, ◌&&◌, length, count, mem, Set}
+use Rattle.graph_core.proofs.from_counting.Common.{◌==◌, ◌&&◌, length, count, mem, Set}
 use Rattle.graph_core.proofs.Common.{Graph}
 use Rattle.match_search.specs.Common.{HoldsMatching, IsSized, MayBeExposed, numbers, AreAlike}
 use Rattle.match_search.proofs.best.last_frame.Given as goal

@@ -1,4 +1,4 @@
-use Rattle.counting.proofs.Common.{◌≡◌, ℕ, suc, ◌+◌, ◌<◌, sym, ap, ap₂, ◌∙◌, arith, subst, length, List, fun_ext, get_or_default_zero}
+use Rattle.graph_core.proofs.from_counting.Common.{◌≡◌, ℕ, suc, ◌+◌, ◌<◌, sym, ap, ap₂, ◌∙◌, arith, subst, length, List, fun_ext, get_or_default_zero}
 use Rattle.match_search.specs.Common.{second_start, with_pair, flipped_mates, numbers, part}
 use Rattle.match_search.proofs.ClosingPairs.{pairs_augmented, second_in}
 use Rattle.match_search.proofs.blossom.augment.Goals as goal

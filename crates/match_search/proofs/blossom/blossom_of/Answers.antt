@@ -1,4 +1,4 @@
-use Rattle.counting.proofs.Common.{◌≡◌, ℕ, suc, ◌+◌, ◌-◌, ◌<◌, refl, sym, ap, arith, subst, length, List, Within}
+use Rattle.graph_core.proofs.from_counting.Common.{◌≡◌, ℕ, suc, ◌+◌, ◌-◌, ◌<◌, refl, sym, ap, arith, subst, length, List, Within}
 use Rattle.match_search.specs.Common.{numbers}
 use Rattle.match_search.proofs.ClosedCycles.{cycle_exposes, blossom_cycle_holds, cycle_within, stem_half}
 use Rattle.match_search.proofs.ClosingPairs.{second_in}

@@ -1,4 +1,4 @@
-use Rattle.counting.proofs.Common.{◌≡◌, ◌≢◌, ℕ, ◌-◌, true, sym, ap, ap₂, ◌∙◌, arith, subst, length, List, fun_ext, get_or_default_zero, Within, mem}
+use Rattle.graph_core.proofs.from_counting.Common.{◌≡◌, ◌≢◌, ℕ, ◌-◌, true, sym, ap, ap₂, ◌∙◌, arith, subst, length, List, fun_ext, get_or_default_zero, Within, mem}
 use Rattle.match_search.specs.Common.{blossom_length, Touches, paired_round, with_mate, with_pair, numbers}
 use Rattle.match_search.proofs.Opening.{IsSmallCycle, mate_near, mate_within, opened_base, opened_tip, small_cycle}
 use Rattle.match_search.proofs.blossom.open.Goals as goal

@@ -1,4 +1,4 @@
-use Rattle.counting.proofs.Common.{◌≡◌, ℕ, false, Within, mem}
+use Rattle.graph_core.proofs.from_counting.Common.{◌≡◌, ℕ, false, Within, mem}
 use Rattle.match_search.specs.Common.{numbers}
 use Rattle.match_search.proofs.blossom.place_in.Given as goal
 

@@ -1,4 +1,4 @@
-use Rattle.counting.proofs.Common.{◌≡◌, ℕ, mem}
+use Rattle.graph_core.proofs.from_counting.Common.{◌≡◌, ℕ, mem}
 use Rattle.match_search.specs.Common.{listed, numbers}
 use Rattle.match_search.proofs.cycle.members_of.Given as goal
 

@@ -1,4 +1,4 @@
-use Rattle.counting.proofs.Common.{◌≡◌, ◌≢◌, false, ap, ◌||◌, ◌==◌, ◌∙◌, sym, arith, mem}
+use Rattle.graph_core.proofs.from_counting.Common.{◌≡◌, ◌≢◌, false, ap, ◌||◌, ◌==◌, ◌∙◌, sym, arith, mem}
 use Rattle.match_search.specs.Common.{numbers}
 use Rattle.match_search.proofs.FlowerPaths.{last_more}
 use Rattle.match_search.proofs.ForestWalks.{Climbs, GoesOn, climbs, goes_on, not_root}

@@ -1,4 +1,4 @@
-use Rattle.counting.proofs.Common.{◌≡◌, true, mem}
+use Rattle.graph_core.proofs.from_counting.Common.{◌≡◌, true, mem}
 use Rattle.match_search.specs.Common.{HoldsForest, IsLastIn, numbers}
 use Rattle.match_search.proofs.ForestWalks.{steps}
 use Rattle.match_search.proofs.flower.last_in.Given as goal

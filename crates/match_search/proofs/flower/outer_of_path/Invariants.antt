@@ -1,4 +1,4 @@
-use Rattle.counting.proofs.Common.{◌≡◌, ◌↔◌, ℕ, ◌+◌, ◌≤◌, true, mem}
+use Rattle.graph_core.proofs.from_counting.Common.{◌≡◌, ◌↔◌, ℕ, ◌+◌, ◌≤◌, true, mem}
 use Rattle.match_search.specs.Common.{HoldsForest, GoesOver, numbers}
 use Rattle.match_search.proofs.ForestWalks.{steps}
 use Rattle.match_search.proofs.flower.outer_of_path.Given as goal

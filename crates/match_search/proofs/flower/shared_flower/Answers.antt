@@ -1,4 +1,4 @@
-use Rattle.counting.proofs.Common.{◌≡◌, ℕ, ◌==◌, ◌||◌, ap, ◌∙◌, mem, or_false}
+use Rattle.graph_core.proofs.from_counting.Common.{◌≡◌, ℕ, ◌==◌, ◌||◌, ap, ◌∙◌, mem, or_false}
 use Rattle.match_search.proofs.ForestWalks.{closed_forest}
 use Rattle.match_search.proofs.PathFlowers.{flower_closed, meets_base, meets_path}
 use Rattle.match_search.proofs.flower.shared_flower.Goals as goal

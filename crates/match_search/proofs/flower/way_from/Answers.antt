@@ -1,4 +1,4 @@
-use Rattle.counting.proofs.Common.{ap, ◌||◌, ◌==◌, ◌∙◌, sym, subst, arith, ne_eqb, ℕ, [], ◌∷◌, or_false}
+use Rattle.graph_core.proofs.from_counting.Common.{ap, ◌||◌, ◌==◌, ◌∙◌, sym, subst, arith, ne_eqb, ℕ, [], ◌∷◌, or_false}
 use Rattle.match_search.specs.Common.{IsLastIn, numbers}
 use Rattle.match_search.proofs.FlowerPaths.{last_more}
 use Rattle.match_search.proofs.ForestWalks.{climbs, goes_on}

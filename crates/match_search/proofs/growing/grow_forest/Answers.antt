@@ -1,4 +1,4 @@
-use Rattle.counting.proofs.Common.{◌≡◌, ◌-◌, ◌*◌, sym, ◌∙◌, arith, subst, length, and_parts, count, mem}
+use Rattle.graph_core.proofs.from_counting.Common.{◌≡◌, ◌-◌, ◌*◌, sym, ◌∙◌, arith, subst, length, and_parts, count, mem}
 use Rattle.match_search.specs.Common.{IsClosingPair}
 use Rattle.match_search.specs.declared.growing.Adjacent.{Adjacent}
 use Rattle.match_search.proofs.ActiveVertices.{all_done, branch_grows, closed_grows}

@@ -1,4 +1,4 @@
-use Rattle.counting.proofs.Common.{◌+◌, ◌-◌, ◌*◌, length, count, Set, mem}
+use Rattle.graph_core.proofs.from_counting.Common.{◌+◌, ◌-◌, ◌*◌, length, count, Set, mem}
 use Rattle.graph_core.proofs.Common.{Graph}
 use Rattle.match_search.specs.Common.{GrowsForest}
 use Rattle.match_search.proofs.growing.grow_forest.Given as goal

@@ -1,4 +1,4 @@
-use Rattle.counting.proofs.Common.{◌≡◌, ℕ, sym, ◌∙◌, arith, length, subst, not, ◌&&◌, nat_lt, nat_le, mem}
+use Rattle.graph_core.proofs.from_counting.Common.{◌≡◌, ℕ, sym, ◌∙◌, arith, length, subst, not, ◌&&◌, nat_lt, nat_le, mem}
 use Rattle.graph_core.proofs.Common.{AreRows}
 use Rattle.match_search.proofs.Instances.{full_left, whole_instance}
 use Rattle.match_search.proofs.instance.instance_of.Goals as goal

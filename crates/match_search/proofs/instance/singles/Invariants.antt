@@ -1,4 +1,4 @@
-use Rattle.counting.proofs.Common.{◌≡◌, ℕ, length, [], ◌∷◌, Within, item}
+use Rattle.graph_core.proofs.from_counting.Common.{◌≡◌, ℕ, length, [], ◌∷◌, Within, item}
 use Rattle.match_search.proofs.instance.singles.Given as goal
 
 abbrev pub invariant-loop-i : goal.invariant-loop-i

@@ -1,4 +1,4 @@
-use Rattle.counting.proofs.Common.{◌≡◌, ℕ, true, length, ◌⊎◌, mem, item}
+use Rattle.graph_core.proofs.from_counting.Common.{◌≡◌, ℕ, true, length, ◌⊎◌, mem, item}
 use Rattle.match_search.proofs.instance.unions_of.Given as goal
 
 abbrev pub invariant-uniting : goal.invariant-uniting

@@ -1,4 +1,4 @@
-use Rattle.counting.proofs.Common.{◌≡◌, ℕ, suc, ◌+◌, ◌==◌, ◌&&◌, ◌||◌, not, Bool, true, false, sym, subst, subst₂, ap, ap₂, ◌∙◌, arith, eq-eqb, eqb-true, length, both_ways, fun_ext, Within, Set, put, mem}
+use Rattle.graph_core.proofs.from_counting.Common.{◌≡◌, ℕ, suc, ◌+◌, ◌==◌, ◌&&◌, ◌||◌, not, Bool, true, false, sym, subst, subst₂, ap, ap₂, ◌∙◌, arith, eq-eqb, eqb-true, length, both_ways, fun_ext, Within, Set, put, mem}
 use Rattle.graph_core.proofs.Common.{graph_of}
 use Rattle.match_search.specs.Common.{MarksMates, marks, numbers, end_a, end_b}
 use Rattle.match_search.proofs.GraphRows.{ends_here, row_graph, size_is}

@@ -1,4 +1,4 @@
-use Rattle.counting.proofs.Common.{◌≡◌, ◌+◌, length, mem}
+use Rattle.graph_core.proofs.from_counting.Common.{◌≡◌, ◌+◌, length, mem}
 use Rattle.graph_core.proofs.Common.{graph_of}
 use Rattle.match_search.specs.Common.{MarksMates, marks, numbers}
 use Rattle.match_search.proofs.marked.marks_of.Given as goal

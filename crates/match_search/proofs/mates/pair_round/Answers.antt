@@ -1,4 +1,4 @@
-use Rattle.counting.proofs.Common.{◌≡◌, ℕ, suc, ◌+◌, ◌-◌, ap, ◌∙◌, arith, cond, length, fun_ext}
+use Rattle.graph_core.proofs.from_counting.Common.{◌≡◌, ℕ, suc, ◌+◌, ◌-◌, ap, ◌∙◌, arith, cond, length, fun_ext}
 use Rattle.match_search.specs.Common.{paired_round, with_pair, every_other, next, numbers}
 use Rattle.match_search.proofs.mates.pair_round.Goals as goal
 

@@ -1,4 +1,4 @@
-use Rattle.counting.proofs.Common.{◌≡◌, ◌-◌, ◌==◌, ◌&&◌, count, mem}
+use Rattle.graph_core.proofs.from_counting.Common.{◌≡◌, ◌-◌, ◌==◌, ◌&&◌, count, mem}
 use Rattle.match_search.specs.Common.{numbers}
 use Rattle.match_search.proofs.missable.exposed_count.Given as goal
 

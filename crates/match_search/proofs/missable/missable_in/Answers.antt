@@ -1,4 +1,4 @@
-use Rattle.counting.proofs.Common.{List, ℕ, sym, subst, ap, ◌∙◌, length, singleton, union}
+use Rattle.graph_core.proofs.from_counting.Common.{List, ℕ, sym, subst, ap, ◌∙◌, length, singleton, union}
 use Rattle.match_search.specs.Common.{HoldsMatching, MayBeExposed}
 use Rattle.match_search.proofs.Instances.{left_parts}
 use Rattle.match_search.proofs.MissableRows.{exposed_without, held_without, serves_again, written_long}

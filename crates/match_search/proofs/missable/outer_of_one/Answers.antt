@@ -1,4 +1,4 @@
-use Rattle.counting.proofs.Common.{ℕ, List, refl, sym, ap, ◌∙◌, true≢false, mem}
+use Rattle.graph_core.proofs.from_counting.Common.{ℕ, List, refl, sym, ap, ◌∙◌, true≢false, mem}
 use Rattle.match_search.proofs.AugmentedMates.{left_is}
 use Rattle.match_search.proofs.Flowers.{outer_row, rooted_from}
 use Rattle.match_search.proofs.MissableRows.{missable_row}

@@ -1,4 +1,4 @@
-use Rattle.counting.proofs.Common.{◌≡◌, ℕ, arith, rules, sym, ◌∙◌, not, ◌==◌, all_in_true, and_parts, mem, Set}
+use Rattle.graph_core.proofs.from_counting.Common.{◌≡◌, ℕ, arith, rules, sym, ◌∙◌, not, ◌==◌, all_in_true, and_parts, mem, Set}
 use Rattle.graph_core.proofs.Common.{Graph, missed_count}
 use Rattle.match_search.specs.Common.{ClosesForest, GrowsForest}
 use Rattle.match_search.proofs.Flowers.{IsFound, base_within, below_grows, below_one, flower_less, flower_within, inner_within, outer_final, outer_up, outer_whole, parent_within, shrunk_edges, shrunk_graph_of, shrunk_out}

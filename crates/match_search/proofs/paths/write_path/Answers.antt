@@ -1,4 +1,4 @@
-use Rattle.counting.proofs.Common.{◌≡◌, ◌≢◌, ℕ, ◌+◌, ◌-◌, ◌<◌, sym, ap, ◌∙◌, arith, inl, inr, length, List, slice_set, get_or-set_same, get_or-set_other, cases_eq}
+use Rattle.graph_core.proofs.from_counting.Common.{◌≡◌, ◌≢◌, ℕ, ◌+◌, ◌-◌, ◌<◌, sym, ap, ◌∙◌, arith, inl, inr, length, List, slice_set, get_or-set_same, get_or-set_other, cases_eq}
 use Rattle.match_search.specs.Common.{numbers}
 use Rattle.match_search.proofs.ForestWalks.{climbs, goes_on, has_mate, has_pairs}
 use Rattle.match_search.proofs.PathsUp.{unwritten, up_parts, path_written}

@@ -1,4 +1,4 @@
-use Rattle.counting.proofs.Common.{arith, or_assoc}
+use Rattle.graph_core.proofs.from_counting.Common.{arith, or_assoc}
 use Rattle.match_search.specs.Common.{marks}
 use Rattle.match_search.proofs.GrownRows.{with_put}
 use Rattle.match_search.proofs.Gluing.{mem-more}

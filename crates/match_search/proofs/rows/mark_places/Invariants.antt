@@ -1,4 +1,4 @@
-use Rattle.counting.proofs.Common.{◌≡◌, ℕ, length, take, ◌||◌, mem}
+use Rattle.graph_core.proofs.from_counting.Common.{◌≡◌, ℕ, length, take, ◌||◌, mem}
 use Rattle.match_search.specs.Common.{marks}
 use Rattle.match_search.proofs.rows.mark_places.Given as goal
 

@@ -1,5 +1,5 @@
-use Rattle.counting.proofs.Common.{◌==◌, ◌&&◌, ◌||◌, take, sym, ap, ◌∙◌, arith, list_any_more, get_or_from_slice_get, list_any, item, mem}
-use Rattle.match_core.specs.declared.matching.MatchRow.{MatchRow}
+use Rattle.graph_core.proofs.from_counting.Common.{◌==◌, ◌&&◌, ◌||◌, take, sym, ap, ◌∙◌, arith, list_any_more, get_or_from_slice_get, list_any, item, mem}
+use Rattle.barrier_kit.specs.from_match_core.declared.matching.MatchRow.{MatchRow}
 use Rattle.matching_digraph.specs.MatchedPairs.{row_joins}
 use Rattle.matching_digraph.proofs.arcs.add_mates.Goals as goal
 

@@ -1,4 +1,4 @@
-use Rattle.counting.proofs.Common.{◌≡◌, ◌||◌, ℕ, length, take, list_any, Within, item, mem}
+use Rattle.graph_core.proofs.from_counting.Common.{◌≡◌, ◌||◌, ℕ, length, take, list_any, Within, item, mem}
 use Rattle.matching_digraph.specs.MatchedPairs.{row_joins}
 use Rattle.matching_digraph.proofs.arcs.add_mates.Given as goal
 

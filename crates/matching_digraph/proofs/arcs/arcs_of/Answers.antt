@@ -1,5 +1,5 @@
-use Rattle.counting.proofs.Common.{◌≡◌, ℕ, ◌∙◌, ◌++◌, List, length, take, drop, sym, ap, arith, take-append_seam, mem}
-use Rattle.match_core.specs.Common.{edges_of}
+use Rattle.graph_core.proofs.from_counting.Common.{◌≡◌, ℕ, ◌∙◌, ◌++◌, List, length, take, drop, sym, ap, arith, take-append_seam, mem}
+use Rattle.barrier_kit.specs.from_match_core.Common.{edges_of}
 use Rattle.matching_digraph.proofs.MatchedArcs.{arcs_from, list_any-mates}
 use Rattle.matching_digraph.proofs.arcs.arcs_of.Goals as goal
 

@@ -1,4 +1,4 @@
-use Rattle.counting.proofs.Common.{◌≡◌, ◌&&◌, not, ℕ, length, Within, item, mem, none}
+use Rattle.graph_core.proofs.from_counting.Common.{◌≡◌, ◌&&◌, not, ℕ, length, Within, item, mem, none}
 use Rattle.graph_core.proofs.Common.{adjacent}
 use Rattle.matching_digraph.proofs.arcs.outer_rows.Given as goal
 

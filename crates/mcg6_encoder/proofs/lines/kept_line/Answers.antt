@@ -1,6 +1,6 @@
 use Rattle.std.proofs.Common.{◌≡◌, ◌∙◌, [], refl, ap, sym, slice_index_or}
-use Rattle.line_text.specs.Common.{lines_of}
-use Rattle.line_text.proofs.LineCuts.{lines_of-nil}
+use Rattle.graph_core.specs.from_line_text.Common.{lines_of}
+use Rattle.graph_core.proofs.from_line_text.LineCuts.{lines_of-nil}
 use Rattle.mcg6_encoder.proofs.lines.kept_line.Goals as goal
 
 pub returns : goal.returns

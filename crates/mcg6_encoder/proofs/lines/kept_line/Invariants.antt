@@ -1,5 +1,5 @@
 use Rattle.std.proofs.Common.{◌≡◌, ◌-◌, [], length, slice_index_or}
-use Rattle.line_text.specs.Common.{lines_of}
+use Rattle.graph_core.specs.from_line_text.Common.{lines_of}
 use Rattle.mcg6_encoder.proofs.lines.kept_line.Given as goal
 
 abbrev pub invariant-passing : goal.invariant-passing

@@ -1,7 +1,7 @@
 use Rattle.std.proofs.Common.{◌+◌, drop, ap, arith}
 use Rattle.std.proofs.lemmas.Result.{err_from_is_err_and}
 use Rattle.std.proofs.lemmas.List.{drop_all}
-use Rattle.outside.specs.declared.sink.SinkFailed.{SinkFailed}
+use Rattle.mcg6_encoder.specs.from_outside.declared.sink.SinkFailed.{SinkFailed}
 use Rattle.front_words.proofs.Sayings.{saying-first, saying-next, saying-broken, saying-done}
 use Rattle.mcg6_front_top.specs.Words.{skipped_words}
 use Rattle.mcg6_front_top.proofs.SkippedLines.{skipped-item}

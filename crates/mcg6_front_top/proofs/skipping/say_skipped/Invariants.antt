@@ -1,5 +1,5 @@
 use Rattle.std.proofs.Common.{drop}
-use Rattle.outside.specs.declared.sink.SinkFailed.{SinkFailed}
+use Rattle.mcg6_encoder.specs.from_outside.declared.sink.SinkFailed.{SinkFailed}
 use Rattle.front_words.proofs.Sayings.{IsSaying}
 use Rattle.mcg6_front_top.specs.Words.{skipped_words}
 use Rattle.mcg6_front_top.proofs.skipping.say_skipped.Given as goal

@@ -1,6 +1,6 @@
-use Rattle.counting.proofs.Common.{◌≡◌, ◌≢◌, ◌∙◌, [], ℕ, List, ap₂, arith, subst, sym, Within, mem, pair_set}
+use Rattle.allowed_edges.proofs.from_counting.Common.{◌≡◌, ◌≢◌, ◌∙◌, [], ℕ, List, ap₂, arith, subst, sym, Within, mem, pair_set}
 use Rattle.graph_core.proofs.Common.{Graph, has_perfect, has_perfect_found, has_perfect_says}
-use Rattle.match_core.specs.Common.{are_partners}
+use Rattle.allowed_edges.specs.from_match_core.Common.{are_partners}
 use Rattle.mcg6_lines.proofs.bicritical.has_all_partners.Goals as goal
 
 partners_are : (g : Graph) (u v : ℕ) → u ≢ v → are_partners g (mem []) u v ≡ has_perfect g (pair_set u v)

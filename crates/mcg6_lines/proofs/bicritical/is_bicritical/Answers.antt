@@ -1,4 +1,4 @@
-use Rattle.counting.proofs.Common.{◌≤◌, Bool, true, false, arith, refl, sym, ◌↔◌, IsTrue, true≢false, IfOk-weaker, Within, none}
+use Rattle.allowed_edges.proofs.from_counting.Common.{◌≤◌, Bool, true, false, arith, refl, sym, ◌↔◌, IsTrue, true≢false, IfOk-weaker, Within, none}
 use Rattle.graph_core.proofs.Common.{Graph, HasPerfect, IsBicritical, IsMultigraph, size}
 use Rattle.mcg6_lines.specs.Selecting.{Decides}
 use Rattle.mcg6_lines.specs.declared.query.Property.TheVariants.{Bicritical}

@@ -1,4 +1,4 @@
-use Rattle.counting.proofs.Common.{◌+◌, ◌∙◌, ap, arith, inl, inr, subst, sym, IsTrue, cases_eq}
+use Rattle.allowed_edges.proofs.from_counting.Common.{◌+◌, ◌∙◌, ap, arith, inl, inr, subst, sym, IsTrue, cases_eq}
 use Rattle.mcg6_lines.specs.Selecting.{HasAllPartners}
 use Rattle.mcg6_lines.proofs.bicritical.is_critical.Goals as goal
 

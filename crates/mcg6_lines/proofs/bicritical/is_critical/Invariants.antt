@@ -1,4 +1,4 @@
-use Rattle.counting.proofs.Common.{◌≡◌, ℕ, [], Within}
+use Rattle.allowed_edges.proofs.from_counting.Common.{◌≡◌, ℕ, [], Within}
 use Rattle.mcg6_lines.specs.Selecting.{HasAllPartners}
 use Rattle.mcg6_lines.proofs.bicritical.is_critical.Given as goal
 

@@ -1,6 +1,6 @@
-use Rattle.counting.proofs.Common.{◌≤◌, ◌-◌, ℕ, List, length, count_by, ap, sym, ◌∙◌, arith, count_mem_length, is_odd, mem, none}
+use Rattle.allowed_edges.proofs.from_counting.Common.{◌≤◌, ◌-◌, ℕ, List, length, count_by, ap, sym, ◌∙◌, arith, count_mem_length, is_odd, mem, none}
 use Rattle.graph_core.proofs.Common.{berge_bound}
-use Rattle.barrier_kit.proofs.CutLists.{odd_parts-counted}
+use Rattle.definition_laws.proofs.from_barrier_kit.CutLists.{odd_parts-counted}
 use Rattle.mcg6_lines.proofs.MissedVertices.{excess, odd_parts}
 use Rattle.mcg6_lines.proofs.deficiencies.missed_beside.Goals as goal
 

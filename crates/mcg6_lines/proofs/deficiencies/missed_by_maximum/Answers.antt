@@ -1,7 +1,7 @@
-use Rattle.counting.proofs.Common.{◌≤◌, ◌-◌, ◌*◌, List, length, map, arith, length-map, mem, none, IsRisingIn}
+use Rattle.allowed_edges.proofs.from_counting.Common.{◌≤◌, ◌-◌, ◌*◌, List, length, map, arith, length-map, mem, none, IsRisingIn}
 use Rattle.graph_core.proofs.Common.{Graph, IsGraph, IsMaximum, size}
-use Rattle.match_core.proofs.MatchingEdges.{edge_of, rows-rise}
-use Rattle.match_core.specs.declared.matching.MatchRow.{MatchRow}
+use Rattle.allowed_edges.proofs.from_match_core.MatchingEdges.{edge_of, rows-rise}
+use Rattle.allowed_edges.specs.from_match_core.declared.matching.MatchRow.{MatchRow}
 use Rattle.mcg6_lines.specs.Standings.{IsDeficiency}
 use Rattle.mcg6_lines.proofs.MissedVertices.{ends_within, rest_missed}
 use Rattle.mcg6_lines.proofs.deficiencies.missed_by_maximum.Goals as goal

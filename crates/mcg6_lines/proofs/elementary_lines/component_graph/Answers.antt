@@ -1,4 +1,4 @@
-use Rattle.counting.proofs.Common.{◌&&◌, length, arith, subst, sym, mem}
+use Rattle.allowed_edges.proofs.from_counting.Common.{◌&&◌, length, arith, subst, sym, mem}
 use Rattle.graph_core.proofs.Common.{first_end, inside, is_allowed, IsSimple, second_end, size}
 use Rattle.mcg6_lines.specs.Elementary.{component_graph, number_in}
 use Rattle.mcg6_lines.proofs.Components.{simple_component}

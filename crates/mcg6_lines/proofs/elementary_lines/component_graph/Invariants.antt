@@ -1,4 +1,4 @@
-use Rattle.counting.proofs.Common.{◌≡◌, ◌≤◌, ◌&&◌, length, mem}
+use Rattle.allowed_edges.proofs.from_counting.Common.{◌≡◌, ◌≤◌, ◌&&◌, length, mem}
 use Rattle.graph_core.proofs.Common.{first_end, inside, is_allowed, second_end, size}
 use Rattle.mcg6_lines.specs.Elementary.{number_in}
 use Rattle.mcg6_lines.proofs.TakenEdges.{Takes}

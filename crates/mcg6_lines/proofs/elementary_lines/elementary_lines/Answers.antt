@@ -1,4 +1,4 @@
-use Rattle.counting.proofs.Common.{◌∙◌, arith, sym, IfOk-weaker, none-some}
+use Rattle.allowed_edges.proofs.from_counting.Common.{◌∙◌, arith, sym, IfOk-weaker, none-some}
 use Rattle.mcg6_lines.proofs.Components.{matched_lines, unmatched_lines}
 use Rattle.mcg6_lines.proofs.elementary_lines.elementary_lines.Goals as goal
 

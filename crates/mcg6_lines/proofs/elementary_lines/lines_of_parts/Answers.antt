@@ -1,4 +1,4 @@
-use Rattle.counting.proofs.Common.{append_assoc, arith, drop_all, append-nil, get_or_from_slice_get}
+use Rattle.allowed_edges.proofs.from_counting.Common.{append_assoc, arith, drop_all, append-nil, get_or_from_slice_get}
 use Rattle.mcg6_lines.proofs.Components.{components_next, part_rises}
 use Rattle.mcg6_lines.proofs.elementary_lines.lines_of_parts.Goals as goal
 

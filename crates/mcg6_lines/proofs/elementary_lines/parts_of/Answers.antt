@@ -1,4 +1,4 @@
-use Rattle.counting.proofs.Common.{◌≡◌, ℕ, All, List, arith, IfOk-weaker, IsRisingIn, mem}
+use Rattle.allowed_edges.proofs.from_counting.Common.{◌≡◌, ℕ, All, List, arith, IfOk-weaker, IsRisingIn, mem}
 use Rattle.graph_core.proofs.Common.{components}
 use Rattle.mcg6_lines.specs.Elementary.{elementary_parts}
 use Rattle.mcg6_lines.proofs.Components.{parts_rise}

@@ -1,4 +1,4 @@
-use Rattle.line_text.proofs.ExactlyOne.{StandsAlone-stands}
+use Rattle.tree_text.proofs.from_line_text.ExactlyOne.{StandsAlone-stands}
 use Rattle.move_text.specs.Common.{move_format, moves_text}
 use Rattle.move_text.proofs.MovesReadBack.{Stands-moves_text}
 use Rattle.move_text.proofs.laws.written_moves_law.Goals as goal

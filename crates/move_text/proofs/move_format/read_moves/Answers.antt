@@ -1,4 +1,4 @@
-use Rattle.tree_core.proofs.Common.{moves_of}
+use Rattle.tree_text.proofs.from_tree_core.Common.{moves_of}
 use Rattle.move_text.proofs.MovesRead.{all-read}
 use Rattle.move_text.proofs.move_format.read_moves.Goals as goal
 

@@ -1,6 +1,6 @@
 use Rattle.counting.proofs.Common.{◌≡◌, ◌++◌, ◌∷◌, [], ◌∙◌, List, ap, arith, map-append}
-use Rattle.tree_core.proofs.Common.{move_of, moves_of}
-use Rattle.tree_core.specs.declared.moves.Move.{Move}
+use Rattle.tree_text.proofs.from_tree_core.Common.{move_of, moves_of}
+use Rattle.tree_text.specs.from_tree_core.declared.moves.Move.{Move}
 use Rattle.move_text.proofs.move_format.read_switch.Goals as goal
 
 -- the moves with one more

@@ -1,10 +1,10 @@
 use Rattle.std.proofs.Common.{◌≡◌, ◌<◌, ◌≤◌, ◌^◌, [], ◌∷◌, ◌++◌, ℕ, List, length, get_or, take, take_all, subst, sym, ◌∙◌, ap, ap₂, arith}
 use Rattle.counting.proofs.Common.{AllByRecursion, length-map, get_or_from_slice_get}
-use Rattle.line_text.specs.Common.{Stands, written}
-use Rattle.line_text.proofs.ExactlyOne.{StandsAlone-stands}
-use Rattle.line_text.proofs.WrittenLines.{written-more}
-use Rattle.tree_core.specs.declared.moves.Move.{Move}
-use Rattle.tree_core.proofs.Common.{move_of, moves_of}
+use Rattle.tree_text.specs.from_line_text.Common.{Stands, written}
+use Rattle.tree_text.proofs.from_line_text.ExactlyOne.{StandsAlone-stands}
+use Rattle.tree_text.proofs.from_line_text.WrittenLines.{written-more}
+use Rattle.tree_text.specs.from_tree_core.declared.moves.Move.{Move}
+use Rattle.tree_text.proofs.from_tree_core.Common.{move_of, moves_of}
 use Rattle.move_text.specs.Common.{move_format, most_moves, header_words, move_words, HasShortPath, HasSets, SetsRise, IsWritable}
 use Rattle.move_text.proofs.MovesReadBack.{Stands-moves_text}
 use Rattle.move_text.proofs.TextSoFar.{all-next, moves_text-by_moves}

@@ -1,6 +1,6 @@
 use Rattle.counting.proofs.Common.{◌≡◌, ◌∷◌, map, take, string_bytes, AllByRecursion}
-use Rattle.line_text.specs.Common.{written}
-use Rattle.tree_core.proofs.Common.{move_of, moves_of}
+use Rattle.tree_text.specs.from_line_text.Common.{written}
+use Rattle.tree_text.proofs.from_tree_core.Common.{move_of, moves_of}
 use Rattle.move_text.specs.Common.{header_words, move_words, SetsRise}
 use Rattle.move_text.proofs.writing.write_moves.Given as goal
 

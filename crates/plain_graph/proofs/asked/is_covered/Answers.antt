@@ -1,4 +1,4 @@
-use Rattle.counting.proofs.Common.{arith, both_ways}
+use Rattle.allowed_edges.proofs.from_counting.Common.{arith, both_ways}
 use Rattle.graph_core.proofs.Common.{reason-uncovered}
 use Rattle.plain_graph.proofs.asked.is_covered.Goals as goal
 

@@ -1,4 +1,4 @@
-use Rattle.counting.proofs.Common.{◌≡◌, ◌≤◌, ◌&&◌, count, mem}
+use Rattle.allowed_edges.proofs.from_counting.Common.{◌≡◌, ◌≤◌, ◌&&◌, count, mem}
 use Rattle.graph_core.proofs.Common.{in_cut}
 use Rattle.plain_graph.proofs.cuts.edges_in_cut.Given as goal
 

@@ -1,4 +1,4 @@
-use Rattle.counting.proofs.Common.{mem}
+use Rattle.allowed_edges.proofs.from_counting.Common.{mem}
 use Rattle.plain_graph.proofs.OddSides.{odd_sides-none, odd_sides-rest}
 use Rattle.plain_graph.proofs.cuts.has_odd_sides.Goals as goal
 

@@ -1,4 +1,4 @@
-use Rattle.counting.proofs.Common.{ℕ, List, ◌==◌, ◌&&◌, ap, sym, ◌∙◌, arith, list_all, mem, none}
+use Rattle.allowed_edges.proofs.from_counting.Common.{ℕ, List, ◌==◌, ◌&&◌, ap, sym, ◌∙◌, arith, list_all, mem, none}
 use Rattle.graph_core.proofs.Common.{edges_in_cut}
 use Rattle.plain_graph.specs.Subsets.{perfect_matchings_of}
 use Rattle.plain_graph.proofs.Tries.{is_tight-list}

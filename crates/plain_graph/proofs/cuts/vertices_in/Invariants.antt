@@ -1,4 +1,4 @@
-use Rattle.counting.proofs.Common.{◌≡◌, ◌≤◌, count, mem}
+use Rattle.allowed_edges.proofs.from_counting.Common.{◌≡◌, ◌≤◌, count, mem}
 use Rattle.plain_graph.proofs.cuts.vertices_in.Given as goal
 
 abbrev pub invariant-loop-i : goal.invariant-loop-i

@@ -1,4 +1,4 @@
-use Rattle.counting.proofs.Common.{◌≡◌, ◌≤◌, ◌+◌, ◌*◌, ◌==◌, ◌&&◌, count, mem}
+use Rattle.allowed_edges.proofs.from_counting.Common.{◌≡◌, ◌≤◌, ◌+◌, ◌*◌, ◌==◌, ◌&&◌, count, mem}
 use Rattle.graph_core.proofs.Common.{first_end, second_end}
 use Rattle.plain_graph.proofs.degrees.degree.Given as goal
 

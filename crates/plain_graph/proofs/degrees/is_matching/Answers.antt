@@ -1,4 +1,4 @@
-use Rattle.counting.proofs.Common.{arith, lt-leb, mem}
+use Rattle.allowed_edges.proofs.from_counting.Common.{arith, lt-leb, mem}
 use Rattle.graph_core.proofs.Common.{fits_at}
 use Rattle.plain_graph.proofs.Tries.{every_not}
 use Rattle.plain_graph.proofs.degrees.is_matching.Goals as goal

@@ -1,4 +1,4 @@
-use Rattle.counting.proofs.Common.{◌≡◌, true, mem, every}
+use Rattle.allowed_edges.proofs.from_counting.Common.{◌≡◌, true, mem, every}
 use Rattle.graph_core.proofs.Common.{fits_at}
 use Rattle.plain_graph.proofs.degrees.is_matching.Given as goal
 

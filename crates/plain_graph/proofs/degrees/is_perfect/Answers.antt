@@ -1,4 +1,4 @@
-use Rattle.counting.proofs.Common.{arith, ne_eqb, mem}
+use Rattle.allowed_edges.proofs.from_counting.Common.{arith, ne_eqb, mem}
 use Rattle.graph_core.proofs.Common.{right_degree}
 use Rattle.plain_graph.proofs.Tries.{every_not}
 use Rattle.plain_graph.proofs.degrees.is_perfect.Goals as goal

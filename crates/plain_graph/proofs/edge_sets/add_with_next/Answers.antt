@@ -1,4 +1,4 @@
-use Rattle.counting.proofs.Common.{◌≡◌, ℕ, ◌<◌, ◌+◌, ◌++◌, ◌∷◌, [], List, length, map, take, get_or, ap, ap₂, sym, ◌∙◌, arith, subst, append_assoc, map_more, get_or_append_left, get_or_from_slice_get, IsRisingIn}
+use Rattle.allowed_edges.proofs.from_counting.Common.{◌≡◌, ℕ, ◌<◌, ◌+◌, ◌++◌, ◌∷◌, [], List, length, map, take, get_or, ap, ap₂, sym, ◌∙◌, arith, subst, append_assoc, map_more, get_or_append_left, get_or_from_slice_get, IsRisingIn}
 use Rattle.plain_graph.proofs.Subsets.{with_next-is}
 use Rattle.plain_graph.proofs.edge_sets.add_with_next.Goals as goal
 

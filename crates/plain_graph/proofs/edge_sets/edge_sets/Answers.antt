@@ -1,4 +1,4 @@
-use Rattle.counting.proofs.Common.{sym, subst, All, IsRisingIn}
+use Rattle.allowed_edges.proofs.from_counting.Common.{sym, subst, All, IsRisingIn}
 use Rattle.plain_graph.proofs.Subsets.{subsets-rising}
 use Rattle.plain_graph.proofs.edge_sets.edge_sets.Goals as goal
 

@@ -1,4 +1,4 @@
-use Rattle.counting.proofs.Common.{sym, ◌∙◌, arith, subst, IsRisingIn, mem}
+use Rattle.allowed_edges.proofs.from_counting.Common.{sym, ◌∙◌, arith, subst, IsRisingIn, mem}
 use Rattle.graph_core.proofs.Common.{size}
 use Rattle.plain_graph.proofs.Tries.{greatest-longer, greatest-same, matching_of-none}
 use Rattle.plain_graph.proofs.matchings.greatest_among.Goals as goal

@@ -1,4 +1,4 @@
-use Rattle.counting.proofs.Common.{mem}
+use Rattle.allowed_edges.proofs.from_counting.Common.{mem}
 use Rattle.plain_graph.proofs.Tries.{IsGreatestSoFar}
 use Rattle.plain_graph.proofs.matchings.greatest_among.Given as goal
 

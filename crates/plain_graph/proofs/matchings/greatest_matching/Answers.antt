@@ -1,4 +1,4 @@
-use Rattle.counting.proofs.Common.{◌≡◌, ℕ, List, ap, sym, ◌∙◌, subst, All, arith, IsRisingIn, mem}
+use Rattle.allowed_edges.proofs.from_counting.Common.{◌≡◌, ℕ, List, ap, sym, ◌∙◌, subst, All, arith, IsRisingIn, mem}
 use Rattle.graph_core.proofs.Common.{size}
 use Rattle.plain_graph.specs.Subsets.{subsets}
 use Rattle.plain_graph.proofs.Subsets.{subsets-rising}

@@ -1,4 +1,4 @@
-use Rattle.counting.proofs.Common.{arith, mem}
+use Rattle.allowed_edges.proofs.from_counting.Common.{arith, mem}
 use Rattle.plain_graph.proofs.Tries.{has_perfect-list}
 use Rattle.plain_graph.proofs.matchings.has_perfect.Goals as goal
 

@@ -1,4 +1,4 @@
-use Rattle.counting.proofs.Common.{ℕ, List, ap, ◌∙◌, list_any, mem}
+use Rattle.allowed_edges.proofs.from_counting.Common.{ℕ, List, ap, ◌∙◌, list_any, mem}
 use Rattle.plain_graph.specs.Subsets.{perfect_matchings_of}
 use Rattle.plain_graph.proofs.Tries.{is_allowed-list}
 use Rattle.plain_graph.proofs.matchings.is_allowed.Goals as goal

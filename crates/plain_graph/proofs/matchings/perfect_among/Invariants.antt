@@ -1,4 +1,4 @@
-use Rattle.counting.proofs.Common.{◌≡◌, filter, take, List, ℕ, mem}
+use Rattle.allowed_edges.proofs.from_counting.Common.{◌≡◌, filter, take, List, ℕ, mem}
 use Rattle.graph_core.proofs.Common.{is_perfect}
 use Rattle.plain_graph.proofs.matchings.perfect_among.Given as goal
 

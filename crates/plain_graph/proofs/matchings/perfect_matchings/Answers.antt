@@ -1,4 +1,4 @@
-use Rattle.counting.proofs.Common.{◌≡◌, ℕ, List, filter, ap, sym, ◌∙◌, subst, All, arith, IsRisingIn, mem, Set}
+use Rattle.allowed_edges.proofs.from_counting.Common.{◌≡◌, ℕ, List, filter, ap, sym, ◌∙◌, subst, All, arith, IsRisingIn, mem, Set}
 use Rattle.graph_core.proofs.Common.{Graph, size, IsPerfect, is_perfect}
 use Rattle.plain_graph.specs.Subsets.{perfect_matchings_of, subsets}
 use Rattle.plain_graph.proofs.Tries.{perfect_matchings-all, perfect_matchings-perfect}

@@ -1,4 +1,4 @@
-use Rattle.counting.proofs.Common.{sym, ap, ◌∙◌, is_odd, mem, is_odd_remainder}
+use Rattle.allowed_edges.proofs.from_counting.Common.{sym, ap, ◌∙◌, is_odd, mem, is_odd_remainder}
 use Rattle.graph_core.proofs.Common.{joined}
 use Rattle.plain_graph.proofs.Reaching.{length-part}
 use Rattle.plain_graph.proofs.parts.is_in_odd_part.Goals as goal

@@ -1,4 +1,4 @@
-use Rattle.counting.proofs.Common.{◌==◌, sym, ap, ◌∙◌, mem}
+use Rattle.allowed_edges.proofs.from_counting.Common.{◌==◌, sym, ap, ◌∙◌, mem}
 use Rattle.plain_graph.proofs.Reaching.{least-first}
 use Rattle.plain_graph.proofs.parts.is_least.Goals as goal
 

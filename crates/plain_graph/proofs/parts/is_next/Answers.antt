@@ -1,4 +1,4 @@
-use Rattle.counting.proofs.Common.{◌+◌, ◌&&◌, sym, arith, and_from, true_some, mem}
+use Rattle.allowed_edges.proofs.from_counting.Common.{◌+◌, ◌&&◌, sym, arith, and_from, true_some, mem}
 use Rattle.graph_core.proofs.Common.{adjacent}
 use Rattle.plain_graph.proofs.parts.is_next.Goals as goal
 

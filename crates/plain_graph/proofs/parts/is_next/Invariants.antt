@@ -1,4 +1,4 @@
-use Rattle.counting.proofs.Common.{◌≡◌, ◌&&◌, false, mem, some}
+use Rattle.allowed_edges.proofs.from_counting.Common.{◌≡◌, ◌&&◌, false, mem, some}
 use Rattle.graph_core.proofs.Common.{adjacent}
 use Rattle.plain_graph.proofs.parts.is_next.Given as goal
 

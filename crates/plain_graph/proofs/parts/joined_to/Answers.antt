@@ -1,4 +1,4 @@
-use Rattle.counting.proofs.Common.{arith, mem}
+use Rattle.allowed_edges.proofs.from_counting.Common.{arith, mem}
 use Rattle.plain_graph.proofs.Reaching.{reaches-all, reaches-step}
 use Rattle.plain_graph.proofs.parts.joined_to.Goals as goal
 

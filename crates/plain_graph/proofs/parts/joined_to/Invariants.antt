@@ -1,4 +1,4 @@
-use Rattle.counting.proofs.Common.{◌≡◌, ℕ, true, Within, mem}
+use Rattle.allowed_edges.proofs.from_counting.Common.{◌≡◌, ℕ, true, Within, mem}
 use Rattle.graph_core.proofs.Common.{adjacent, reaches}
 use Rattle.plain_graph.proofs.parts.joined_to.Given as goal
 

@@ -1,4 +1,4 @@
-use Rattle.counting.proofs.Common.{◌≡◌, ◌≤◌, count, mem}
+use Rattle.allowed_edges.proofs.from_counting.Common.{◌≡◌, ◌≤◌, count, mem}
 use Rattle.plain_graph.specs.Parts.{begins_odd_part}
 use Rattle.plain_graph.proofs.parts.odd_component_count.Given as goal
 

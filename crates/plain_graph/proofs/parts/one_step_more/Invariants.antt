@@ -1,4 +1,4 @@
-use Rattle.counting.proofs.Common.{◌≡◌, ◌<◌, ◌&&◌, ◌||◌, ℕ, true, Within, mem, some}
+use Rattle.allowed_edges.proofs.from_counting.Common.{◌≡◌, ◌<◌, ◌&&◌, ◌||◌, ℕ, true, Within, mem, some}
 use Rattle.graph_core.proofs.Common.{adjacent}
 use Rattle.plain_graph.proofs.parts.one_step_more.Given as goal
 

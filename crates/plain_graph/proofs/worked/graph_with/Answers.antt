@@ -1,4 +1,4 @@
-use Rattle.counting.proofs.Common.{◌≡◌, IsErrOf, Result, Err, sym, ap, ◌∙◌, subst, arith, err_from_is_err_and, Within}
+use Rattle.allowed_edges.proofs.from_counting.Common.{◌≡◌, IsErrOf, Result, Err, sym, ap, ◌∙◌, subst, arith, err_from_is_err_and, Within}
 use Rattle.graph_core.proofs.Common.{IsMultigraph}
 use Rattle.plain_graph.proofs.ReachedEdges.{first_pairs-join, first_pairs-size, reached}
 use Rattle.plain_graph.specs.EdgeFaults.{pair_at}

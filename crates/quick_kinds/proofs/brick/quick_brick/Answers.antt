@@ -1,8 +1,8 @@
 use Rattle.std.proofs.Common.{ap, sym, ◌∙◌, slice_get, arith}
-use Rattle.barrier_kit.proofs.Common.{barrier_cuts, barrier_cuts-canonical}
+use Rattle.matching_digraph.proofs.from_barrier_kit.Common.{barrier_cuts, barrier_cuts-canonical}
 use Rattle.graph_core.proofs.Common.{IsCanonicalCut}
-use Rattle.separation_kit.specs.Common.{separation_cuts}
-use Rattle.separation_kit.proofs.SeparationFacts.{separation_cuts-canonical}
+use Rattle.brick_kit.specs.from_separation_kit.Common.{separation_cuts}
+use Rattle.brick_kit.proofs.from_separation_kit.SeparationFacts.{separation_cuts-canonical}
 use Rattle.quick_kinds.proofs.QuickBricks.{at_least_four, class-none, empty-list, first-left, first-of, first-right, no_cut-pair, no_cuts-bicritical, none-brick, pair-none}
 use Rattle.quick_kinds.proofs.brick.quick_brick.Goals as goal
 

@@ -1,5 +1,5 @@
 use Rattle.std.proofs.Common.{◌≡◌, ◌++◌, length, string_bytes}
-use Rattle.tree_core.proofs.Common.{moves_of}
+use Rattle.move_text.proofs.from_tree_core.Common.{moves_of}
 use Rattle.report_text.specs.Common.{move_lines}
 use Rattle.report_text.proofs.comparisons.push_moves.Given as goal
 

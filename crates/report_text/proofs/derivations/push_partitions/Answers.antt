@@ -1,9 +1,9 @@
 use Rattle.std.proofs.Common.{List, map, string_bytes, subst, sym, arith, ℕ, ◌+◌, ◌++◌, ◌≡◌, add-one}
 use Rattle.contraction.specs.Partition.{PartitionValue}
 use Rattle.report_text.specs.Common.{numbered_leaf_lines}
-use Rattle.tree_core.specs.declared.tallies.LeafKind.{LeafKind}
+use Rattle.move_text.specs.from_tree_core.declared.tallies.LeafKind.{LeafKind}
 use Rattle.report_text.proofs.LeafLines.{lines-more}
-use Rattle.tree_core.proofs.Common.{kinds-all, kinds-next}
+use Rattle.move_text.proofs.from_tree_core.Common.{kinds-all, kinds-next}
 use Rattle.report_text.proofs.derivations.push_partitions.Goals as goal
 
 pub loop-i-preserved : goal.loop-i-preserved

@@ -1,5 +1,5 @@
-use Rattle.counting.proofs.Common.{◌≡◌, ◌++◌, ℕ, length, map, string_bytes, Within}
-use Rattle.tree_core.proofs.Common.{leaf_at, IsLeafKind, kind_at}
+use Rattle.move_text.proofs.from_counting.Common.{◌≡◌, ◌++◌, ℕ, length, map, string_bytes, Within}
+use Rattle.move_text.proofs.from_tree_core.Common.{leaf_at, IsLeafKind, kind_at}
 use Rattle.report_text.specs.Common.{numbered_leaf_lines}
 use Rattle.report_text.proofs.derivations.push_partitions.Given as goal
 

@@ -1,6 +1,6 @@
 use Rattle.std.proofs.Common.{◌≡◌, ◌++◌, ℕ, List, map, string_bytes}
 use Rattle.graph_core.proofs.Common.{Graph}
-use Rattle.tree_core.proofs.Common.{place_of}
+use Rattle.move_text.proofs.from_tree_core.Common.{place_of}
 use Rattle.report_text.specs.Common.{numbered_leaf_lines}
 use Rattle.report_text.proofs.derivations.push_places.Given as goal
 

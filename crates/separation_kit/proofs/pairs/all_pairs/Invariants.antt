@@ -1,4 +1,4 @@
-use Rattle.counting.proofs.Common.{◌≡◌, flat_map, map, nat_lt, pair_with, rising_list, everything}
+use Rattle.graph_core.proofs.from_counting.Common.{◌≡◌, flat_map, map, nat_lt, pair_with, rising_list, everything}
 use Rattle.graph_core.specs.Common.{pair_of}
 use Rattle.separation_kit.proofs.pairs.all_pairs.Given as goal
 

@@ -1,4 +1,4 @@
-use Rattle.counting.proofs.Common.{◌≡◌, ◌++◌, ◌≤◌, map, nat_lt, pair_with, rising_list}
+use Rattle.graph_core.proofs.from_counting.Common.{◌≡◌, ◌++◌, ◌≤◌, map, nat_lt, pair_with, rising_list}
 use Rattle.graph_core.specs.Common.{pair_of}
 use Rattle.separation_kit.proofs.pairs.push_pairs.Given as goal
 

@@ -1,4 +1,4 @@
-use Rattle.counting.proofs.Common.{sym, subst, All, arith, Within, IsRisingIn, pair_set}
+use Rattle.graph_core.proofs.from_counting.Common.{sym, subst, All, arith, Within, IsRisingIn, pair_set}
 use Rattle.separation_kit.proofs.PairShores.{components-rise}
 use Rattle.separation_kit.proofs.shores.add_pair_cuts.Goals as goal
 

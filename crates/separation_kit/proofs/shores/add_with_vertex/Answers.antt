@@ -1,4 +1,4 @@
-use Rattle.counting.proofs.Common.{sym, subst, All, arith, IsRisingIn}
+use Rattle.graph_core.proofs.from_counting.Common.{sym, subst, All, arith, IsRisingIn}
 use Rattle.separation_kit.proofs.PairShores.{fold-map_more}
 use Rattle.separation_kit.proofs.shores.add_with_vertex.Goals as goal
 

@@ -1,4 +1,4 @@
-use Rattle.counting.proofs.Common.{◌≡◌, fold, map, take, mem, rising_list, singleton, union}
+use Rattle.graph_core.proofs.from_counting.Common.{◌≡◌, fold, map, take, mem, rising_list, singleton, union}
 use Rattle.graph_core.proofs.Common.{with_cut}
 use Rattle.separation_kit.proofs.shores.add_with_vertex.Given as goal
 

@@ -1,4 +1,4 @@
-use Rattle.decomposer.specs.Common.{NamedPicks, ScriptPicks}
+use Rattle.bench_tasks.specs.from_decomposer.Common.{NamedPicks, ScriptPicks}
 use Rattle.theorems.proofs.CommandOrders.{named-some, script-some}
 use Rattle.theorems.proofs.PickedDerivations.{chosen-tree, first-tree, picked-tree, some-tree}
 use Rattle.theorems.proofs.decompositions.derivation_exists_law.Goals as goal

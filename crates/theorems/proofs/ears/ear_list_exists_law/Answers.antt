@@ -1,4 +1,4 @@
-use Rattle.ear_core.proofs.Stepping.{covered-edge}
+use Rattle.ear_text.proofs.from_ear_core.Stepping.{covered-edge}
 use Rattle.theorems.proofs.EarSteps.{ear-list-exists}
 use Rattle.theorems.proofs.ears.ear_list_exists_law.Goals as goal
 

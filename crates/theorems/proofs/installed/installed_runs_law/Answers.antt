@@ -1,5 +1,5 @@
 use Rattle.std.proofs.Common.{Some}
-use Rattle.outside.specs.Common.{HasPrinted, IsOpened, PrintState}
+use Rattle.bench_top.specs.from_outside.Common.{HasPrinted, IsOpened, PrintState}
 use Rattle.bench_top.proofs.Reported.{has-reported, reported-other}
 use Rattle.theorems.proofs.DoneRuns.{done-decomposition, done-ears, done-pairing, done-picks, done-script, done-sets}
 use Rattle.theorems.proofs.InstalledRuns.{given, installed-run, notes, printed}

@@ -1,5 +1,5 @@
 use Rattle.graph_core.proofs.Common.{berge_bound}
-use Rattle.counting.specs.Common.{none}
+use Rattle.tree_check.specs.from_counting.Common.{none}
 use Rattle.theorems.proofs.TutteBergeGallai.{attained_maximum, berge_attained}
 use Rattle.theorems.proofs.matchings.berge_law.Goals as goal
 

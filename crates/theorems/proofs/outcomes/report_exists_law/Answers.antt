@@ -1,4 +1,4 @@
-use Rattle.decomposer.specs.Common.{NamedPicks, ScriptPicks}
+use Rattle.bench_tasks.specs.from_decomposer.Common.{NamedPicks, ScriptPicks}
 use Rattle.theorems.proofs.AnalysesExist.{analysed-exists, analysed6-exists}
 use Rattle.theorems.proofs.BuiltExist.{built-exists, converted-exists, decomposition-exists, grown-exists}
 use Rattle.theorems.proofs.CommandOrders.{named-some, script-some}

@@ -1,4 +1,4 @@
-use Rattle.mcg6_lines.proofs.Counts.{same_counts}
+use Rattle.bench_top.proofs.from_mcg6_lines.Counts.{same_counts}
 use Rattle.theorems.proofs.program.counts_law.Goals as goal
 
 pub returns : goal.returns

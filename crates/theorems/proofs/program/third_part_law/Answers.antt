@@ -1,4 +1,4 @@
-use Rattle.tight_cuts.proofs.LeastShores.{common_from, common_in, parts_found, parts_says}
+use Rattle.tree_check.proofs.from_tight_cuts.LeastShores.{common_from, common_in, parts_found, parts_says}
 use Rattle.theorems.proofs.Separated.{separated-words}
 use Rattle.theorems.proofs.program.third_part_law.Goals as goal
 

@@ -1,4 +1,4 @@
-use Rattle.counting.proofs.Common.{◌≡◌, ◌∙◌, ap, sym, subst, ℕ, List, option_map, none-some}
+use Rattle.graph_core.proofs.from_counting.Common.{◌≡◌, ◌∙◌, ap, sym, subst, ℕ, List, option_map, none-some}
 use Rattle.graph_core.proofs.Common.{Graph}
 use Rattle.tree_core.specs.Common.{PlaceValue, seen_at}
 use Rattle.tight_cuts.specs.Common.{candidate_of, candidates, first_of, lifted_candidate}

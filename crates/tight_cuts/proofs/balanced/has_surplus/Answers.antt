@@ -1,4 +1,4 @@
-use Rattle.counting.proofs.Common.{◌∙◌, not, sym, arith, and_parts, mem, set-part}
+use Rattle.graph_core.proofs.from_counting.Common.{◌∙◌, not, sym, arith, and_parts, mem, set-part}
 use Rattle.tight_cuts.proofs.SurplusShores.{lists_tight}
 use Rattle.tight_cuts.proofs.balanced.has_surplus.Goals as goal
 

@@ -1,4 +1,4 @@
-use Rattle.counting.proofs.Common.{◌≡◌, ℕ, false, Within, complement, mem}
+use Rattle.graph_core.proofs.from_counting.Common.{◌≡◌, ℕ, false, Within, complement, mem}
 use Rattle.graph_core.proofs.Common.{connects}
 use Rattle.tight_cuts.proofs.balanced.keeps_edges.Given as goal
 

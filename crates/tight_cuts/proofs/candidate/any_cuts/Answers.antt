@@ -1,4 +1,4 @@
-use Rattle.counting.proofs.Common.{sym, ap, ◌∙◌, list_any, mem}
+use Rattle.graph_core.proofs.from_counting.Common.{sym, ap, ◌∙◌, list_any, mem}
 use Rattle.graph_core.proofs.Common.{in_cut}
 use Rattle.tight_cuts.specs.Common.{cuts}
 use Rattle.tight_cuts.specs.declared.candidate.Candidate.{Candidate}

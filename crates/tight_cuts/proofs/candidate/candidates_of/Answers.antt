@@ -1,4 +1,4 @@
-use Rattle.counting.proofs.Common.{sym, subst, All, All-get_or, IsRisingIn}
+use Rattle.graph_core.proofs.from_counting.Common.{sym, subst, All, All-get_or, IsRisingIn}
 use Rattle.tight_cuts.proofs.candidate.candidates_of.Goals as goal
 
 pub new-requires-clause-shore : goal.new-requires-clause-shore

@@ -1,5 +1,5 @@
 use Rattle.std.proofs.Common.{arith}
-use Rattle.contraction.proofs.QuotientValues.{few-blocks}
+use Rattle.tree_core.proofs.from_contraction.QuotientValues.{few-blocks}
 use Rattle.tight_cuts.proofs.ClustersAtPlaces.{name-listed}
 use Rattle.tight_cuts.proofs.clusters.named_in.Goals as goal
 

@@ -1,4 +1,4 @@
-use Rattle.counting.proofs.Common.{◌≡◌, ℕ, true, length, last_of, mem, Within}
+use Rattle.graph_core.proofs.from_counting.Common.{◌≡◌, ℕ, true, length, last_of, mem, Within}
 use Rattle.graph_core.proofs.Common.{block}
 use Rattle.tight_cuts.proofs.clusters.named_in.Given as goal
 

@@ -1,4 +1,4 @@
-use Rattle.counting.proofs.Common.{◌≡◌, ℕ, ◌<◌, cond, length, Within, item, mem}
+use Rattle.graph_core.proofs.from_counting.Common.{◌≡◌, ℕ, ◌<◌, cond, length, Within, item, mem}
 use Rattle.tight_cuts.proofs.clusters.put_at_members.Given as goal
 
 abbrev pub invariant-loop-i : goal.invariant-loop-i

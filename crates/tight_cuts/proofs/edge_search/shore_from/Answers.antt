@@ -1,4 +1,4 @@
-use Rattle.counting.proofs.Common.{◌∙◌, ap₂, min, max, both_ways}
+use Rattle.graph_core.proofs.from_counting.Common.{◌∙◌, ap₂, min, max, both_ways}
 use Rattle.tight_cuts.proofs.EdgePairs.{leads-test, skip_first}
 use Rattle.tight_cuts.proofs.edge_search.shore_from.Goals as goal
 

@@ -1,4 +1,4 @@
-use Rattle.counting.proofs.Common.{◌≡◌, ℕ, Within}
+use Rattle.graph_core.proofs.from_counting.Common.{◌≡◌, ℕ, Within}
 use Rattle.tight_cuts.specs.Common.{with_edge_cut}
 use Rattle.tight_cuts.proofs.finder.edges_settled.Given as goal
 

@@ -1,4 +1,4 @@
-use Rattle.counting.proofs.Common.{◌≡◌, ◌↔◌, ◌∙◌, List, None, Option, Some, subst, ℕ, IfOk-weaker, mem}
+use Rattle.graph_core.proofs.from_counting.Common.{◌≡◌, ◌↔◌, ◌∙◌, List, None, Option, Some, subst, ℕ, IfOk-weaker, mem}
 use Rattle.graph_core.proofs.Common.{Graph, HasOnlyTrivialTightCuts, IsNontrivial, IsTight}
 use Rattle.tight_cuts.proofs.finder.find_any.Goals as goal
 

@@ -1,4 +1,4 @@
-use Rattle.counting.proofs.Common.{◌≡◌, ℕ, ap, sym, ◌∙◌, List, [], Option, Some, subst, unwrap_or, arith, option_map, mem}
+use Rattle.graph_core.proofs.from_counting.Common.{◌≡◌, ℕ, ap, sym, ◌∙◌, List, [], Option, Some, subst, unwrap_or, arith, option_map, mem}
 use Rattle.graph_core.proofs.Common.{IsNontrivial, IsTight}
 use Rattle.tight_cuts.specs.Common.{Candidate, candidates, first_of, first_shore, candidate_of}
 use Rattle.tight_cuts.proofs.finder.first_cut.Goals as goal

@@ -1,4 +1,4 @@
-use Rattle.counting.proofs.Common.{sym, subst, All, IsRisingIn}
+use Rattle.graph_core.proofs.from_counting.Common.{sym, subst, All, IsRisingIn}
 use Rattle.barrier_kit.proofs.Common.{barrier_cuts-canonical}
 use Rattle.graph_core.proofs.Common.{IsCanonicalCut}
 use Rattle.tight_cuts.proofs.FrontCandidates.{canonical-rising}

@@ -1,6 +1,6 @@
 use Rattle.std.proofs.Common.{sym, ap, ◌∙◌, arith, option_map}
 use Rattle.barrier_kit.proofs.Common.{bicritical_no_cuts}
-use Rattle.separation_kit.proofs.SeparationFacts.{equivalent-none}
+use Rattle.quick_kinds.proofs.from_separation_kit.SeparationFacts.{equivalent-none}
 use Rattle.graph_core.specs.Common.{pair_of}
 use Rattle.tight_cuts.proofs.FrontCandidates.{front-barriers, front-separations, order-small, equivalent-some}
 use Rattle.tight_cuts.proofs.front.first_front_candidate.Goals as goal

@@ -1,5 +1,5 @@
-use Rattle.separation_kit.proofs.SeparationFacts.{separation_cuts-canonical}
-use Rattle.separation_kit.specs.Common.{separation_cuts}
+use Rattle.quick_kinds.proofs.from_separation_kit.SeparationFacts.{separation_cuts-canonical}
+use Rattle.quick_kinds.specs.from_separation_kit.Common.{separation_cuts}
 use Rattle.tight_cuts.specs.Common.{Separation, candidate_of}
 use Rattle.std.specs.Option.{option_map}
 use Rattle.tight_cuts.proofs.FrontCandidates.{first_cut-candidate, first_cut-rises}

@@ -1,8 +1,8 @@
-use Rattle.counting.proofs.Common.{◌≡◌, List, sym, subst, ap, ◌∙◌, arith, map, option_map, IfOk-weaker}
+use Rattle.graph_core.proofs.from_counting.Common.{◌≡◌, List, sym, subst, ap, ◌∙◌, arith, map, option_map, IfOk-weaker}
 use Rattle.barrier_kit.proofs.Common.{bicritical_no_cuts}
 use Rattle.graph_core.proofs.Common.{Graph, IsBicritical, pair_of}
-use Rattle.separation_kit.proofs.SeparationFacts.{equivalent-none}
-use Rattle.separation_kit.specs.Common.{separation_cuts}
+use Rattle.quick_kinds.proofs.from_separation_kit.SeparationFacts.{equivalent-none}
+use Rattle.quick_kinds.specs.from_separation_kit.Common.{separation_cuts}
 use Rattle.tight_cuts.specs.Common.{Candidate, Separation, candidate_at, front_candidates}
 use Rattle.tight_cuts.proofs.FrontCandidates.{front-barriers, front-separations, order-small, equivalent-some}
 use Rattle.tight_cuts.proofs.front.front_candidates.Goals as goal

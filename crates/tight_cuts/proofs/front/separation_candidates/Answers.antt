@@ -1,7 +1,7 @@
-use Rattle.counting.proofs.Common.{◌∙◌, ap, sym, subst, All, arith, IsRisingIn}
-use Rattle.separation_kit.proofs.SeparationFacts.{separation_cuts-canonical}
+use Rattle.graph_core.proofs.from_counting.Common.{◌∙◌, ap, sym, subst, All, arith, IsRisingIn}
+use Rattle.quick_kinds.proofs.from_separation_kit.SeparationFacts.{separation_cuts-canonical}
 use Rattle.graph_core.proofs.Common.{IsCanonicalCut, Graph, IsBicritical}
-use Rattle.separation_kit.specs.Common.{separation_cuts}
+use Rattle.quick_kinds.specs.from_separation_kit.Common.{separation_cuts}
 use Rattle.tight_cuts.proofs.FrontCandidates.{canonical-rising}
 use Rattle.tight_cuts.proofs.front.separation_candidates.Goals as goal
 

@@ -1,5 +1,5 @@
-use Rattle.counting.proofs.Common.{arith, mem}
-use Rattle.allowed_edges.specs.PairTables.{edge_lists}
+use Rattle.graph_core.proofs.from_counting.Common.{arith, mem}
+use Rattle.barrier_kit.specs.from_allowed_edges.PairTables.{edge_lists}
 use Rattle.tight_cuts.proofs.CrossingMatchings.{crosses_new, later_tight}
 use Rattle.tight_cuts.proofs.EdgeShores.{cut-shore, group_facts, none-common, tight-common}
 use Rattle.tight_cuts.proofs.Weighing.{list-small}

@@ -1,4 +1,4 @@
-use Rattle.counting.proofs.Common.{ap, sym, subst, arith, Within}
+use Rattle.graph_core.proofs.from_counting.Common.{ap, sym, subst, arith, Within}
 use Rattle.tight_cuts.proofs.groups.cut_of_groups.Goals as goal
 
 pub min_cut-requires-clause-source : goal.min_cut-requires-clause-source

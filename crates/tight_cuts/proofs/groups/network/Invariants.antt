@@ -1,4 +1,4 @@
-use Rattle.counting.proofs.Common.{◌≡◌, ◌≤◌, total}
+use Rattle.graph_core.proofs.from_counting.Common.{◌≡◌, ◌≤◌, total}
 use Rattle.flow_core.specs.Common.{total_capacity}
 use Rattle.tight_cuts.specs.Common.{arcs_by, at_place, row_group}
 use Rattle.tight_cuts.proofs.groups.network.Given as goal

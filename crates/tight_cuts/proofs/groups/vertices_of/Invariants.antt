@@ -1,4 +1,4 @@
-use Rattle.counting.proofs.Common.{◌≡◌, ◌<◌, ℕ, false, Within, mem}
+use Rattle.graph_core.proofs.from_counting.Common.{◌≡◌, ◌<◌, ℕ, false, Within, mem}
 use Rattle.tight_cuts.specs.Common.{row_group}
 use Rattle.tight_cuts.proofs.groups.vertices_of.Given as goal
 

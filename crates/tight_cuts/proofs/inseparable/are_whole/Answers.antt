@@ -1,4 +1,4 @@
-use Rattle.counting.proofs.Common.{◌∙◌, ap, subst, sym, same_Some, Within, mem}
+use Rattle.graph_core.proofs.from_counting.Common.{◌∙◌, ap, subst, sym, same_Some, Within, mem}
 use Rattle.tight_cuts.specs.Common.{IsCommonShore}
 use Rattle.tight_cuts.proofs.EdgePieces.{whole_shore}
 use Rattle.tight_cuts.proofs.EdgeShores.{ends_within}

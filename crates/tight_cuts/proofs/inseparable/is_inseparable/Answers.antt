@@ -1,4 +1,4 @@
-use Rattle.counting.proofs.Common.{◌≡◌, ◌∙◌, ◌==◌, not, Bool, None, ap₂, max, min, sym, subst₂, true, false, arith, IfOk-weaker, and_parts, pair_set}
+use Rattle.graph_core.proofs.from_counting.Common.{◌≡◌, ◌∙◌, ◌==◌, not, Bool, None, ap₂, max, min, sym, subst₂, true, false, arith, IfOk-weaker, and_parts, pair_set}
 use Rattle.tight_cuts.specs.Common.{first_separated, greater_end, lesser_end, at_place, AreWhole}
 use Rattle.tight_cuts.proofs.EdgePieces.{inseparable, whole_before}
 use Rattle.tight_cuts.proofs.inseparable.is_inseparable.Goals as goal

@@ -1,4 +1,4 @@
-use Rattle.counting.proofs.Common.{◌≡◌, ◌∙◌, None, subst, sym, all_in_true, mem, Within}
+use Rattle.graph_core.proofs.from_counting.Common.{◌≡◌, ◌∙◌, None, subst, sym, all_in_true, mem, Within}
 use Rattle.graph_core.proofs.Common.{Graph, size}
 use Rattle.tight_cuts.proofs.OneSided.{none_parted}
 use Rattle.tight_cuts.specs.Common.{first_separated}

@@ -1,4 +1,4 @@
-use Rattle.counting.proofs.Common.{◌≡◌, true, IfSome, mem, Within}
+use Rattle.graph_core.proofs.from_counting.Common.{◌≡◌, true, IfSome, mem, Within}
 use Rattle.tight_cuts.proofs.joining.next_vertex.Given as goal
 
 abbrev pub invariant-loop-k : goal.invariant-loop-k

@@ -1,4 +1,4 @@
-use Rattle.counting.proofs.Common.{◌<◌, mem}
+use Rattle.graph_core.proofs.from_counting.Common.{◌<◌, mem}
 use Rattle.tight_cuts.specs.Common.{AreRowsWithout, IsOneSided}
 use Rattle.tight_cuts.proofs.joining.reach_of.Given as goal
 

@@ -1,6 +1,6 @@
-use Rattle.counting.proofs.Common.{◌≡◌, ℕ, ◌∙◌, ◌||◌, ap, subst, arith, common_steps, item, mem, Within}
+use Rattle.graph_core.proofs.from_counting.Common.{◌≡◌, ℕ, ◌∙◌, ◌||◌, ap, subst, arith, common_steps, item, mem, Within}
 use Rattle.graph_core.proofs.Common.{Graph}
-use Rattle.match_core.specs.Common.{are_partners}
+use Rattle.barrier_kit.specs.from_match_core.Common.{are_partners}
 use Rattle.tight_cuts.proofs.OneSided.{widened_by_row}
 use Rattle.tight_cuts.proofs.joining.widened_by_row.Goals as goal
 

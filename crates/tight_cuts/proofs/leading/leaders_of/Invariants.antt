@@ -1,4 +1,4 @@
-use Rattle.counting.proofs.Common.{◌≡◌, ℕ, ◌+◌, length, Within}
+use Rattle.graph_core.proofs.from_counting.Common.{◌≡◌, ℕ, ◌+◌, length, Within}
 use Rattle.tight_cuts.specs.Common.{at_place, leader}
 use Rattle.tight_cuts.proofs.leading.leaders_of.Given as goal
 

@@ -1,6 +1,6 @@
 use Rattle.std.proofs.Common.{◌≡◌, ◌∙◌, ◌<◌, length, sym, subst, arith, slice_set}
 use Rattle.std.proofs.lemmas.List.{get_or_default}
-use Rattle.allowed_edges.proofs.Marking.{edge-below}
+use Rattle.barrier_kit.proofs.from_allowed_edges.Marking.{edge-below}
 use Rattle.tight_cuts.specs.Common.{at_place}
 use Rattle.tight_cuts.proofs.Weighing.{counts-more, edge-before, length-counted}
 use Rattle.tight_cuts.proofs.pieces.count_edges.Goals as goal

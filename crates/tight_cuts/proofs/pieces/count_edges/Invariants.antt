@@ -1,5 +1,5 @@
-use Rattle.counting.proofs.Common.{◌≡◌, ℕ, ◌+◌, length, take, map, bit, mem}
-use Rattle.match_core.proofs.MatchingEdges.{edge_of}
+use Rattle.graph_core.proofs.from_counting.Common.{◌≡◌, ℕ, ◌+◌, length, take, map, bit, mem}
+use Rattle.barrier_kit.proofs.from_match_core.MatchingEdges.{edge_of}
 use Rattle.tight_cuts.specs.Common.{at_place}
 use Rattle.tight_cuts.proofs.pieces.count_edges.Given as goal
 

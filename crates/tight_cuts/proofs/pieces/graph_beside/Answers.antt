@@ -1,6 +1,6 @@
-use Rattle.counting.proofs.Common.{◌+◌, ◌∙◌, sym, subst, arith, both_ways}
-use Rattle.allowed_edges.proofs.PairSteps.{held_together}
-use Rattle.allowed_edges.specs.PairTables.{edge_lists}
+use Rattle.graph_core.proofs.from_counting.Common.{◌+◌, ◌∙◌, sym, subst, arith, both_ways}
+use Rattle.barrier_kit.proofs.from_allowed_edges.PairSteps.{held_together}
+use Rattle.barrier_kit.specs.from_allowed_edges.PairTables.{edge_lists}
 use Rattle.tight_cuts.proofs.BesideGraphs.{BesideSoFar, beside-more, beside-skip, beside-whole}
 use Rattle.tight_cuts.proofs.pieces.graph_beside.Goals.{then-f-e+then-both+in_ok-push_edge, else-f-e, else-f-e-via-then-f-e+else-both, else-f-e-via-else-f-e}
 use Rattle.tight_cuts.proofs.pieces.graph_beside.Goals as goal

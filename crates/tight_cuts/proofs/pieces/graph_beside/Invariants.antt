@@ -1,4 +1,4 @@
-use Rattle.allowed_edges.specs.PairTables.{edge_lists}
+use Rattle.barrier_kit.specs.from_allowed_edges.PairTables.{edge_lists}
 use Rattle.tight_cuts.proofs.BesideGraphs.{BesideSoFar}
 use Rattle.tight_cuts.proofs.pieces.graph_beside.Given as goal
 

@@ -1,8 +1,8 @@
 use Rattle.std.proofs.Common.{◌≡◌, ◌+◌, ◌<◌, ℕ, List, All, length, arith, get_or}
 use Rattle.std.proofs.lemmas.List.{length-replicate}
 use Rattle.graph_core.proofs.Common.{Graph, size}
-use Rattle.match_core.specs.Common.{IsOf, MatchingValue}
-use Rattle.match_core.specs.declared.matching.MatchRow.{MatchRow}
+use Rattle.barrier_kit.specs.from_match_core.Common.{IsOf, MatchingValue}
+use Rattle.barrier_kit.specs.from_match_core.declared.matching.MatchRow.{MatchRow}
 use Rattle.tight_cuts.proofs.Weighing.{list-small, map-length, take-whole, weight-next, weight-taken, zeros}
 use Rattle.tight_cuts.proofs.pieces.weights_of.Goals as goal
 

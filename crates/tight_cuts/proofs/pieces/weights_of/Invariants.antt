@@ -1,6 +1,6 @@
 use Rattle.std.proofs.Common.{◌≡◌, ℕ, ◌+◌, length, take, map}
 use Rattle.graph_core.proofs.Common.{size}
-use Rattle.match_core.specs.Common.{edges_of}
+use Rattle.barrier_kit.specs.from_match_core.Common.{edges_of}
 use Rattle.tight_cuts.specs.Common.{at_place, weight}
 use Rattle.tight_cuts.proofs.pieces.weights_of.Given as goal
 

@@ -1,4 +1,4 @@
-use Rattle.counting.proofs.Common.{ℕ, Within, mem}
+use Rattle.graph_core.proofs.from_counting.Common.{ℕ, Within, mem}
 use Rattle.tight_cuts.specs.Common.{Leaves}
 use Rattle.tight_cuts.proofs.quick_tightness.edge_out.Given as goal
 

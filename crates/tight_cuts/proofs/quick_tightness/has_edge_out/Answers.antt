@@ -1,4 +1,4 @@
-use Rattle.counting.proofs.Common.{◌≡◌, true, length, arith, Within, is_subset, mem}
+use Rattle.graph_core.proofs.from_counting.Common.{◌≡◌, true, length, arith, Within, is_subset, mem}
 use Rattle.graph_core.proofs.Common.{row-adjacent}
 use Rattle.tight_cuts.proofs.TurnedEdges.{none_out}
 use Rattle.tight_cuts.proofs.quick_tightness.has_edge_out.Goals as goal

@@ -1,4 +1,4 @@
-use Rattle.counting.proofs.Common.{arith, mem}
+use Rattle.graph_core.proofs.from_counting.Common.{arith, mem}
 use Rattle.tight_cuts.proofs.ThirdEdges.{one_member, vertex_of}
 use Rattle.tight_cuts.proofs.quick_tightness.has_few_later.Goals as goal
 

@@ -1,4 +1,4 @@
-use Rattle.counting.proofs.Common.{◌≡◌, ℕ, ◌<◌, ◌≤◌, true, Within, mem}
+use Rattle.graph_core.proofs.from_counting.Common.{◌≡◌, ℕ, ◌<◌, ◌≤◌, true, Within, mem}
 use Rattle.graph_core.proofs.Common.{size}
 use Rattle.tight_cuts.specs.Common.{Leaves}
 use Rattle.tight_cuts.proofs.quick_tightness.has_few_later.Given as goal

@@ -1,6 +1,6 @@
-use Rattle.counting.proofs.Common.{◌≡◌, ◌∙◌, ◌&&◌, ℕ, true, length, ap, arith, Within, is_subset, mem, none}
+use Rattle.graph_core.proofs.from_counting.Common.{◌≡◌, ◌∙◌, ◌&&◌, ℕ, true, length, ap, arith, Within, is_subset, mem, none}
 use Rattle.graph_core.proofs.Common.{row-adjacent}
-use Rattle.match_core.specs.Common.{are_partners}
+use Rattle.barrier_kit.specs.from_match_core.Common.{are_partners}
 use Rattle.tight_cuts.proofs.TurnedEdges.{none_joined}
 use Rattle.tight_cuts.proofs.quick_tightness.has_partner_out.Goals as goal
 

@@ -1,4 +1,4 @@
-use Rattle.counting.proofs.Common.{arith, mem}
+use Rattle.graph_core.proofs.from_counting.Common.{arith, mem}
 use Rattle.tight_cuts.proofs.TurnedEdges.{end_within, turned_alone, turned_of}
 use Rattle.tight_cuts.proofs.quick_tightness.is_alone_in.Goals as goal
 

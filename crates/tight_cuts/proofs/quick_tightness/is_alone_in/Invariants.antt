@@ -1,4 +1,4 @@
-use Rattle.counting.proofs.Common.{◌≡◌, ℕ, ◌<◌, ◌≤◌, [], Within, mem, none}
+use Rattle.graph_core.proofs.from_counting.Common.{◌≡◌, ℕ, ◌<◌, ◌≤◌, [], Within, mem, none}
 use Rattle.graph_core.proofs.Common.{size}
 use Rattle.tight_cuts.specs.Common.{AreEndsPartners, Leaves}
 use Rattle.tight_cuts.proofs.quick_tightness.is_alone_in.Given as goal

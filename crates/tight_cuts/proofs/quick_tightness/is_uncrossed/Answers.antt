@@ -1,4 +1,4 @@
-use Rattle.counting.proofs.Common.{◌≡◌, ◌⊎◌, ◌+◌, true, sym, subst, ◌∙◌, inl, inr, arith, cases_lt, mem}
+use Rattle.graph_core.proofs.from_counting.Common.{◌≡◌, ◌⊎◌, ◌+◌, true, sym, subst, ◌∙◌, inl, inr, arith, cases_lt, mem}
 use Rattle.tight_cuts.proofs.ThirdEdges.{odd_apart}
 use Rattle.tight_cuts.specs.Common.{HasFewLater, LeavesAlone}
 use Rattle.tight_cuts.proofs.quick_tightness.is_uncrossed.Goals.{then-is_odd, else-is_odd, else-not-is_last-via-then-not-is_last+in_ok-leaves_alone+else-not-branch, else-not-is_last-via-else-not-is_last}

@@ -1,4 +1,4 @@
-use Rattle.counting.proofs.Common.{◌≡◌, ◌⊎◌, ℕ, true, Within, mem}
+use Rattle.graph_core.proofs.from_counting.Common.{◌≡◌, ◌⊎◌, ℕ, true, Within, mem}
 use Rattle.tight_cuts.specs.Common.{HasFewLater, LeavesAlone}
 use Rattle.tight_cuts.proofs.quick_tightness.is_uncrossed.Given as goal
 

@@ -1,4 +1,4 @@
-use Rattle.counting.proofs.Common.{◌+◌, ◌∙◌, ap, mem}
+use Rattle.graph_core.proofs.from_counting.Common.{◌+◌, ◌∙◌, ap, mem}
 use Rattle.graph_core.proofs.Common.{Graph, first_end, second_end, size}
 use Rattle.tight_cuts.proofs.BesideGraphs.{size-more}
 use Rattle.tight_cuts.proofs.TurnedEdges.{turned_more}

@@ -1,4 +1,4 @@
-use Rattle.counting.proofs.Common.{◌≡◌, ℕ, true, Within, mem}
+use Rattle.graph_core.proofs.from_counting.Common.{◌≡◌, ℕ, true, Within, mem}
 use Rattle.graph_core.proofs.Common.{first_end, in_cut, second_end, size, IsEnd}
 use Rattle.tight_cuts.proofs.quick_tightness.turned.Given as goal
 

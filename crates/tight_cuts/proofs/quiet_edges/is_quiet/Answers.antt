@@ -1,4 +1,4 @@
-use Rattle.counting.proofs.Common.{◌∙◌, sym, all_in_true, mem}
+use Rattle.graph_core.proofs.from_counting.Common.{◌∙◌, sym, all_in_true, mem}
 use Rattle.tight_cuts.proofs.OneSided.{alone, none_parted}
 use Rattle.tight_cuts.proofs.quiet_edges.is_quiet.Goals as goal
 

@@ -1,5 +1,5 @@
-use Rattle.counting.proofs.Common.{mem}
-use Rattle.allowed_edges.specs.PairTables.{IsPerfectWith}
+use Rattle.graph_core.proofs.from_counting.Common.{mem}
+use Rattle.barrier_kit.specs.from_allowed_edges.PairTables.{IsPerfectWith}
 use Rattle.tight_cuts.specs.Common.{AreMatchings, IsOneSided}
 use Rattle.tight_cuts.proofs.quiet_edges.reach_of.Given as goal
 

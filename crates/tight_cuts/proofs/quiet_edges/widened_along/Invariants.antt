@@ -1,4 +1,4 @@
-use Rattle.counting.proofs.Common.{mem}
+use Rattle.graph_core.proofs.from_counting.Common.{mem}
 use Rattle.tight_cuts.specs.Common.{IsOneSided}
 use Rattle.tight_cuts.proofs.quiet_edges.widened_along.Given as goal
 

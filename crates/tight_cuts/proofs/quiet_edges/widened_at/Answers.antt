@@ -1,7 +1,7 @@
-use Rattle.counting.proofs.Common.{◌∙◌, ◌||◌, ◌==◌, refl, sym, ap, subst, get_or_from_slice_get, mem}
+use Rattle.graph_core.proofs.from_counting.Common.{◌∙◌, ◌||◌, ◌==◌, refl, sym, ap, subst, get_or_from_slice_get, mem}
 use Rattle.graph_core.proofs.Common.{first_end}
-use Rattle.match_core.specs.Common.{IsRowOf, edges_of}
-use Rattle.allowed_edges.proofs.ListedBases.{edge_held}
+use Rattle.barrier_kit.specs.from_match_core.Common.{IsRowOf, edges_of}
+use Rattle.barrier_kit.proofs.from_allowed_edges.ListedBases.{edge_held}
 use Rattle.tight_cuts.proofs.OneSided.{both_ends}
 use Rattle.tight_cuts.proofs.quiet_edges.widened_at.Goals as goal
 

@@ -1,6 +1,6 @@
-use Rattle.counting.proofs.Common.{◌∙◌, ◌||◌, ◌==◌, sym, ap, mem}
+use Rattle.graph_core.proofs.from_counting.Common.{◌∙◌, ◌||◌, ◌==◌, sym, ap, mem}
 use Rattle.graph_core.proofs.Common.{first_end}
-use Rattle.allowed_edges.proofs.PairSteps.{held_together}
+use Rattle.barrier_kit.proofs.from_allowed_edges.PairSteps.{held_together}
 use Rattle.tight_cuts.proofs.OneSided.{both_ends}
 use Rattle.tight_cuts.proofs.quiet_edges.widened_by.Goals as goal
 

@@ -1,4 +1,4 @@
-use Rattle.counting.proofs.Common.{◌≡◌, ℕ, true, Within, mem}
+use Rattle.graph_core.proofs.from_counting.Common.{◌≡◌, ℕ, true, Within, mem}
 use Rattle.graph_core.proofs.Common.{in_cut}
 use Rattle.tight_cuts.specs.Common.{NoLaterWith}
 use Rattle.tight_cuts.proofs.tightness.crossing.Given as goal

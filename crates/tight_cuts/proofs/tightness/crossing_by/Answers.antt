@@ -1,4 +1,4 @@
-use Rattle.counting.proofs.Common.{false, arith, mem}
+use Rattle.graph_core.proofs.from_counting.Common.{false, arith, mem}
 use Rattle.tight_cuts.proofs.CrossingMatchings.{crosses_by_two}
 use Rattle.tight_cuts.proofs.tightness.crossing_by.Goals as goal
 

@@ -1,4 +1,4 @@
-use Rattle.counting.proofs.Common.{◌≡◌, ℕ, ◌<◌, ◌≤◌, true, mem}
+use Rattle.graph_core.proofs.from_counting.Common.{◌≡◌, ℕ, ◌<◌, ◌≤◌, true, mem}
 use Rattle.graph_core.proofs.Common.{in_cut, Together}
 use Rattle.tight_cuts.proofs.tightness.crossing_from.Given as goal
 

@@ -1,6 +1,6 @@
-use Rattle.counting.proofs.Common.{ℕ, List, subst, sym, arith, mem}
+use Rattle.graph_core.proofs.from_counting.Common.{ℕ, List, subst, sym, arith, mem}
 use Rattle.graph_core.proofs.Common.{covered_perfect, HasPerfect, IsPerfect}
-use Rattle.match_core.specs.Common.{edges_of}
+use Rattle.barrier_kit.specs.from_match_core.Common.{edges_of}
 use Rattle.tight_cuts.proofs.CrossingMatchings.{crossed_not_tight, uncrossed_tight}
 use Rattle.tight_cuts.proofs.tightness.is_tight.Goals as goal
 

@@ -1,5 +1,5 @@
-use Rattle.counting.proofs.Common.{◌∙◌, sym, arith, not-false}
-use Rattle.allowed_edges.proofs.PairSteps.{apart_shared, share_some}
+use Rattle.graph_core.proofs.from_counting.Common.{◌∙◌, sym, arith, not-false}
+use Rattle.barrier_kit.proofs.from_allowed_edges.PairSteps.{apart_shared, share_some}
 use Rattle.tight_cuts.proofs.tightness.is_to_ask.Goals as goal
 
 pub returns-clause-none : goal.returns-clause-none

@@ -1,4 +1,4 @@
-use Rattle.counting.proofs.Common.{arith, mem}
+use Rattle.graph_core.proofs.from_counting.Common.{arith, mem}
 use Rattle.tight_cuts.proofs.PartnersOfEnds.{together_partners}
 use Rattle.tight_cuts.proofs.tightness.may_hold_both.Goals as goal
 

@@ -1,4 +1,4 @@
-use Rattle.counting.proofs.Common.{◌≡◌, ℕ, true, subst, arith, Within, mem}
+use Rattle.graph_core.proofs.from_counting.Common.{◌≡◌, ℕ, true, subst, arith, Within, mem}
 use Rattle.graph_core.proofs.Common.{Graph, covered_perfect, in_cut, size, tight_from_cut}
 use Rattle.tight_cuts.proofs.CrossingMatchings.{crossed_not_tight, uncrossed_tight}
 use Rattle.tight_cuts.specs.Common.{NoLaterWith}

@@ -1,4 +1,4 @@
-use Rattle.counting.proofs.Common.{ℕ, List, [], length, Option, unwrap_or, sym, ap, ap₂, ◌∙◌, subst, arith, mem, rising_list}
+use Rattle.graph_core.proofs.from_counting.Common.{ℕ, List, [], length, Option, unwrap_or, sym, ap, ap₂, ◌∙◌, subst, arith, mem, rising_list}
 use Rattle.graph_core.proofs.Common.{Graph, blocks_in, quotient}
 use Rattle.tight_cuts.specs.Common.{CrossesTwice, IsTightness}
 use Rattle.tree_check.proofs.CutRules.{crossing-shown, places-odd, places-rise, tight-shown}

@@ -1,4 +1,4 @@
-use Rattle.counting.proofs.Common.{List, ℕ, arith, sym, ap, ◌∙◌, none-some, count_complement, mem}
+use Rattle.graph_core.proofs.from_counting.Common.{List, ℕ, arith, sym, ap, ◌∙◌, none-some, count_complement, mem}
 use Rattle.graph_core.proofs.Common.{block_count}
 use Rattle.tree_check.proofs.CutRules.{breaks-some, even-count, is-cut, nontrivial-shown, odd-count, union-at}
 use Rattle.tree_check.specs.declared.judgement.Why.TheVariants.{Even}

@@ -1,4 +1,4 @@
-use Rattle.counting.proofs.Common.{◌≡◌, ℕ, ◌+◌, ◌==◌, ◌||◌, List, sym, ◌∙◌, subst, arith, mem}
+use Rattle.graph_core.proofs.from_counting.Common.{◌≡◌, ℕ, ◌+◌, ◌==◌, ◌||◌, List, sym, ◌∙◌, subst, arith, mem}
 use Rattle.tree_check.proofs.PlacesInside.{added-members, added-within, all-places, left-members, left-within, room}
 use Rattle.tree_check.proofs.rules.places_in.Goals.{then-is_subset, else-is_subset}
 use Rattle.tree_check.proofs.rules.places_in.Goals as goal

@@ -1,5 +1,5 @@
 -- So far the set has the places of the blocks before this one that are in the shore.
-use Rattle.counting.proofs.Common.{◌≡◌, ℕ, true, Within, mem}
+use Rattle.graph_core.proofs.from_counting.Common.{◌≡◌, ℕ, true, Within, mem}
 use Rattle.graph_core.proofs.Common.{blocks_in}
 use Rattle.tree_check.proofs.rules.places_in.Given as goal
 

@@ -1,4 +1,4 @@
-use Rattle.counting.proofs.Common.{eqb-true, arith, mem}
+use Rattle.graph_core.proofs.from_counting.Common.{eqb-true, arith, mem}
 use Rattle.tree_check.proofs.SoundMoves.{block-of_one}
 use Rattle.tree_check.proofs.sound_moves.is_block.Goals as goal
 

@@ -1,4 +1,4 @@
-use Rattle.counting.proofs.Common.{◌≡◌, ℕ, length, map, Within}
+use Rattle.graph_core.proofs.from_counting.Common.{◌≡◌, ℕ, length, map, Within}
 use Rattle.tree_core.specs.Common.{leaf_at, IsLeafKind, kind_at}
 use Rattle.tree_core.proofs.tallies.leaf_kinds.Given as goal
 

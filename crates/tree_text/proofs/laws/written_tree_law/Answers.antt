@@ -1,4 +1,4 @@
-use Rattle.line_text.proofs.ExactlyOne.{StandsAlone-stands}
+use Rattle.graph_core.proofs.from_line_text.ExactlyOne.{StandsAlone-stands}
 use Rattle.tree_text.specs.Common.{tree_format, tree_text}
 use Rattle.tree_text.proofs.TreeReadBack.{Stands-tree_text}
 use Rattle.tree_text.proofs.laws.written_tree_law.Goals as goal

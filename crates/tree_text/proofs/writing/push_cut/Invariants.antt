@@ -1,5 +1,5 @@
 use Rattle.std.proofs.Common.{◌≡◌, ◌++◌, codes, length, map, string_bytes, decimal}
-use Rattle.line_text.proofs.WrittenLines.{spaced}
+use Rattle.graph_core.proofs.from_line_text.WrittenLines.{spaced}
 use Rattle.tree_text.proofs.writing.push_cut.Given as goal
 
 -- what is written and the vertices left make the whole line

@@ -1,4 +1,4 @@
-use Rattle.counting.proofs.Common.{[], ap, map, ◌∙◌, ◌∷◌, into_iter_items, map-append}
+use Rattle.graph_core.proofs.from_counting.Common.{[], ap, map, ◌∙◌, ◌∷◌, into_iter_items, map-append}
 use Rattle.uncross.proofs.MappedSteps.{made-next}
 use Rattle.uncross.specs.Common.{IsMapIntoIf, map_after, map_of, maps_of}
 use Rattle.uncross.proofs.leaf_maps.maps_after.Goals as goal

@@ -1,4 +1,4 @@
-use Rattle.counting.proofs.Common.{ap, ◌∙◌, fun_ext, odd_remainder, is_odd}
+use Rattle.graph_core.proofs.from_counting.Common.{ap, ◌∙◌, fun_ext, odd_remainder, is_odd}
 use Rattle.graph_core.proofs.Common.{block_count}
 use Rattle.uncross.proofs.plans.share_odd.Goals as goal
 

@@ -1,4 +1,4 @@
-use Rattle.counting.proofs.Common.{◌+◌, ◌-◌, ◌&&◌, arith, mem}
+use Rattle.graph_core.proofs.from_counting.Common.{◌+◌, ◌-◌, ◌&&◌, arith, mem}
 use Rattle.match_core.specs.Common.{edges_of}
 use Rattle.allowed_edges.specs.EdgeTables.{numbers_at, share}
 use Rattle.allowed_edges.proofs.HeldNumbers.{any_written, meets_more}

@@ -1,6 +1,6 @@
 use Rattle.std.proofs.Common.{ℕ, subst₂, arith}
-use Rattle.line_text.specs.Common.{ReadsText, reading_of}
-use Rattle.ear_core.specs.Common.{ears_of}
+use Rattle.graph_core.specs.from_line_text.Common.{ReadsText, reading_of}
+use Rattle.ear_text.specs.from_ear_core.Common.{ears_of}
 use Rattle.ear_text.specs.EarFormat.{ear_format}
 use Rattle.bench_tasks.proofs.TextReads.{ReadsText-reading_of}
 use Rattle.bench_tasks.proofs.formats.EarFileFileFormat.read.Goals as goal

@@ -1,5 +1,5 @@
 use Rattle.std.proofs.Common.{ℕ, List}
-use Rattle.tree_text.specs.Common.{pick_format}
+use Rattle.move_text.specs.from_tree_text.Common.{pick_format}
 use Rattle.bench_tasks.proofs.TextReads.{ReadsText-reading_of}
 use Rattle.bench_tasks.proofs.formats.PickFileFileFormat.read.Goals as goal
 

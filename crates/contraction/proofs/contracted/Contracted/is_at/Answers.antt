@@ -1,4 +1,4 @@
-use Rattle.counting.proofs.Common.{arith, slice_eq-Decides, bytes_eq-Decides}
+use Rattle.graph_core.proofs.from_counting.Common.{arith, slice_eq-Decides, bytes_eq-Decides}
 use Rattle.contraction.proofs.contracted.Contracted.is_at.Goals as goal
 
 pub returns : goal.returns

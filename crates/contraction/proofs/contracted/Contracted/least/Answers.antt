@@ -1,4 +1,4 @@
-use Rattle.counting.proofs.Common.{ℕ, ◌<◌, List, length, subst, sym, slice_index, Within}
+use Rattle.graph_core.proofs.from_counting.Common.{ℕ, ◌<◌, List, length, subst, sym, slice_index, Within}
 use Rattle.contraction.proofs.LeastEdges.{least-within, some-least}
 use Rattle.contraction.proofs.contracted.Contracted.least.Goals as goal
 

@@ -1,4 +1,4 @@
-use Rattle.counting.proofs.Common.{ap, ◌∙◌, arith, ℕ, List, length, ◌&&◌, mem, some}
+use Rattle.graph_core.proofs.from_counting.Common.{ap, ◌∙◌, arith, ℕ, List, length, ◌&&◌, mem, some}
 use Rattle.graph_core.proofs.Common.{block}
 use Rattle.contraction.specs.Contracted.{ContractedValue}
 use Rattle.contraction.proofs.ContractedValues.{few-blocks, union-blocks}

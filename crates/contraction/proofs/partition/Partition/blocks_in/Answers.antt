@@ -1,4 +1,4 @@
-use Rattle.counting.proofs.Common.{◌≡◌, ◌<◌, ◌^◌, ap, sym, ◌∙◌, arith, ℕ, List, count_by, count_by-le-length, is_subset, mem}
+use Rattle.graph_core.proofs.from_counting.Common.{◌≡◌, ◌<◌, ◌^◌, ap, sym, ◌∙◌, arith, ℕ, List, count_by, count_by-le-length, is_subset, mem}
 use Rattle.graph_core.proofs.Common.{block_count}
 use Rattle.contraction.specs.Partition.{PartitionValue, KeepsPartition}
 use Rattle.contraction.proofs.BlockLists.{count-along, length-partition}

@@ -1,4 +1,4 @@
-use Rattle.counting.proofs.Common.{◌≡◌, ap, sym, ◌∙◌, subst, true, IsTrue, ℕ, List, Bool, list_all, both_ways, rising_list-rises, Within, everything, IsRisingIn, is_subset, mem, rising_list}
+use Rattle.graph_core.proofs.from_counting.Common.{◌≡◌, ap, sym, ◌∙◌, subst, true, IsTrue, ℕ, List, Bool, list_all, both_ways, rising_list-rises, Within, everything, IsRisingIn, is_subset, mem, rising_list}
 use Rattle.contraction.specs.Partition.{IsUnionAt, KeepsPartition, PartitionValue}
 use Rattle.contraction.proofs.BlockUnions.{in_or_apart, union-test, within-test, test-from_union}
 use Rattle.contraction.proofs.partition.Partition.is_union.Goals as goal

@@ -1,4 +1,4 @@
-use Rattle.counting.proofs.Common.{◌≡◌, ap, sym, ◌∙◌, subst, ℕ, List, filter, not, is_subset}
+use Rattle.graph_core.proofs.from_counting.Common.{◌≡◌, ap, sym, ◌∙◌, subst, ℕ, List, filter, not, is_subset}
 use Rattle.graph_core.proofs.Common.{insert_block, merged}
 use Rattle.contraction.specs.Partition.{IsUnionAt, KeepsPartition, PartitionValue}
 use Rattle.contraction.proofs.BlockUnions.{keeps-merged, merged-outside}

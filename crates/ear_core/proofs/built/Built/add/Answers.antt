@@ -1,4 +1,4 @@
-use Rattle.counting.proofs.Common.{◌∙◌, ap, map, map-append}
+use Rattle.graph_core.proofs.from_counting.Common.{◌∙◌, ap, map, map-append}
 use Rattle.ear_core.specs.Common.{step_of}
 use Rattle.ear_core.proofs.GoingOn.{built-on, on-ok}
 use Rattle.ear_core.proofs.built.Built.add.Goals as goal

@@ -1,5 +1,5 @@
 use Rattle.std.proofs.Common.{◌∙◌, arith, refl, subst, sym}
-use Rattle.match_search.specs.Common.{marks}
+use Rattle.two_ears.specs.from_match_search.Common.{marks}
 use Rattle.ear_core.proofs.GoingOn.{filled-first}
 use Rattle.ear_core.specs.Common.{IsAsked}
 use Rattle.ear_core.proofs.built.Built.add_between.Goals as goal

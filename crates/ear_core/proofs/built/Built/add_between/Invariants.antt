@@ -1,6 +1,6 @@
-use Rattle.counting.proofs.Common.{◌≡◌, ◌+◌, ◌≤◌, ℕ, Set, complement, count}
+use Rattle.graph_core.proofs.from_counting.Common.{◌≡◌, ◌+◌, ◌≤◌, ℕ, Set, complement, count}
 use Rattle.graph_core.proofs.Common.{size}
-use Rattle.match_search.specs.Common.{marks}
+use Rattle.two_ears.specs.from_match_search.Common.{marks}
 use Rattle.ear_core.specs.Common.{IsBuilt, IsFilled, IsMarked}
 use Rattle.ear_core.proofs.built.Built.add_between.Given as goal
 

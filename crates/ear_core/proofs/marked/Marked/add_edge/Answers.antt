@@ -1,6 +1,6 @@
 use Rattle.std.proofs.Common.{rules}
-use Rattle.match_search.specs.Common.{marks}
-use Rattle.allowed_edges.proofs.Marking.{length-marked, marks-set}
+use Rattle.two_ears.specs.from_match_search.Common.{marks}
+use Rattle.two_ears.proofs.from_allowed_edges.Marking.{length-marked, marks-set}
 use Rattle.ear_core.proofs.MarkedStages.{ends-added}
 use Rattle.ear_core.proofs.marked.Marked.add_edge.Goals as goal
 

@@ -1,6 +1,6 @@
-use Rattle.counting.proofs.Common.{◌||◌, ◌==◌, ◌∙◌, ap, sym, List, ℕ, or_assoc, mem, Within}
+use Rattle.graph_core.proofs.from_counting.Common.{◌||◌, ◌==◌, ◌∙◌, ap, sym, List, ℕ, or_assoc, mem, Within}
 use Rattle.graph_core.proofs.Common.{size}
-use Rattle.match_search.specs.Common.{marks}
+use Rattle.two_ears.specs.from_match_search.Common.{marks}
 use Rattle.ear_core.proofs.FirstFaults.{items-behind}
 use Rattle.ear_core.proofs.marked.Marked.add_edges.Goals as goal
 

@@ -1,6 +1,6 @@
-use Rattle.counting.proofs.Common.{◌≡◌, ◌||◌, ℕ, All, length, mem, Within}
+use Rattle.graph_core.proofs.from_counting.Common.{◌≡◌, ◌||◌, ℕ, All, length, mem, Within}
 use Rattle.graph_core.proofs.Common.{size}
-use Rattle.match_search.specs.Common.{marks}
+use Rattle.two_ears.specs.from_match_search.Common.{marks}
 use Rattle.ear_core.specs.Common.{IsMarked}
 use Rattle.ear_core.proofs.marked.Marked.add_edges.Given as goal
 

@@ -1,5 +1,5 @@
-use Rattle.counting.proofs.Common.{◌≡◌, ℕ, true, Within}
-use Rattle.match_search.specs.Common.{marks}
+use Rattle.graph_core.proofs.from_counting.Common.{◌≡◌, ℕ, true, Within}
+use Rattle.two_ears.specs.from_match_search.Common.{marks}
 use Rattle.ear_core.proofs.marked.Marked.least_left.Given as goal
 
 -- the edges so far are marked

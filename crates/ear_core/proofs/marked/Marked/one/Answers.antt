@@ -1,6 +1,6 @@
-use Rattle.counting.proofs.Common.{rules, ap, ◌∙◌, Bool, List, sym, mem}
-use Rattle.match_search.proofs.Marks.{no-marks}
-use Rattle.match_search.specs.Common.{marks}
+use Rattle.graph_core.proofs.from_counting.Common.{rules, ap, ◌∙◌, Bool, List, sym, mem}
+use Rattle.two_ears.proofs.from_match_search.Marks.{no-marks}
+use Rattle.two_ears.specs.from_match_search.Common.{marks}
 use Rattle.ear_core.proofs.MarkedStages.{nothing-met}
 use Rattle.ear_core.proofs.marked.Marked.one.Goals as goal
 

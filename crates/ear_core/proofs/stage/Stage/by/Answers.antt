@@ -1,5 +1,5 @@
-use Rattle.counting.proofs.Common.{mem}
-use Rattle.match_search.specs.Common.{marks}
+use Rattle.graph_core.proofs.from_counting.Common.{mem}
+use Rattle.two_ears.specs.from_match_search.Common.{marks}
 use Rattle.ear_core.proofs.StageClasses.{asked-classes}
 use Rattle.ear_core.proofs.StageMates.{names-listed}
 use Rattle.ear_core.proofs.stage.Stage.by.Goals as goal

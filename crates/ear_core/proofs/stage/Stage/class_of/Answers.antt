@@ -1,4 +1,4 @@
-use Rattle.counting.proofs.Common.{◌≡◌, ◌↔◌, List, ℕ, false, subst, sym, true, mem, Within}
+use Rattle.graph_core.proofs.from_counting.Common.{◌≡◌, ◌↔◌, List, ℕ, false, subst, sym, true, mem, Within}
 use Rattle.ear_core.proofs.StageClasses.{class-has, one-has}
 use Rattle.ear_core.specs.Common.{HasClasses, HaveRow}
 use Rattle.ear_core.specs.declared.asking.Asked.{Asked}

@@ -1,4 +1,4 @@
-use Rattle.counting.proofs.Common.{◌≡◌, ℕ, subst, sym, true, mem, Within}
+use Rattle.graph_core.proofs.from_counting.Common.{◌≡◌, ℕ, subst, sym, true, mem, Within}
 use Rattle.ear_core.proofs.StageClasses.{rows-kept}
 use Rattle.ear_core.specs.Common.{HaveRow}
 use Rattle.ear_core.specs.declared.asking.Asked.{Asked}

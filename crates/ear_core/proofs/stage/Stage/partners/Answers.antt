@@ -1,4 +1,4 @@
-use Rattle.counting.proofs.Common.{◌≡◌, ◌↔◌, ◌∙◌, List, ℕ, ap, not, subst, sym, true, both_ways, item, mem, true≢false, Within}
+use Rattle.graph_core.proofs.from_counting.Common.{◌≡◌, ◌↔◌, ◌∙◌, List, ℕ, ap, not, subst, sym, true, both_ways, item, mem, true≢false, Within}
 use Rattle.ear_core.proofs.StagePartners.{partners-on}
 use Rattle.ear_core.specs.Common.{ArePartnersOn, IsAsked, is_met}
 use Rattle.ear_core.specs.declared.asking.Asked.{Asked}

@@ -1,4 +1,4 @@
-use Rattle.counting.proofs.Common.{◌≡◌, ℕ, ◌∙◌, ◌↔◌, ap, subst, sym, true, Within, is_odd, mem}
+use Rattle.tree_check.proofs.from_counting.Common.{◌≡◌, ℕ, ◌∙◌, ◌↔◌, ap, subst, sym, true, Within, is_odd, mem}
 use Rattle.engine_tests.proofs.OddShores.{remainder-odd, subset-rises}
 use Rattle.engine_tests.proofs.tests.cuts.is_odd_shore.Goals as goal
 

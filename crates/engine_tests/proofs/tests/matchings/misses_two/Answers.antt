@@ -1,4 +1,4 @@
-use Rattle.counting.proofs.Common.{◌+◌, ◌*◌, [], arith, eqb-true, set-none}
+use Rattle.tree_check.proofs.from_counting.Common.{◌+◌, ◌*◌, [], arith, eqb-true, set-none}
 use Rattle.match_core.proofs.ClearedMatchings.{left_size}
 use Rattle.match_core.proofs.MatchingEdges.{rows-matching}
 use Rattle.engine_tests.proofs.tests.matchings.misses_two.Goals as goal

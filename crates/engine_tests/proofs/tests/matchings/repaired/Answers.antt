@@ -1,4 +1,4 @@
-use Rattle.counting.proofs.Common.{sym, subst, mem}
+use Rattle.tree_check.proofs.from_counting.Common.{sym, subst, mem}
 use Rattle.graph_core.proofs.Common.{IsMatching}
 use Rattle.match_core.specs.Common.{edges_of}
 use Rattle.match_core.proofs.MatchingEdges.{rows-matching}

@@ -1,4 +1,4 @@
-use Rattle.counting.proofs.Common.{sym, ◌∙◌, arith, is_subset, mem, all_in_true, set-narrower}
+use Rattle.tree_check.proofs.from_counting.Common.{sym, ◌∙◌, arith, is_subset, mem, all_in_true, set-narrower}
 use Rattle.engine_tests.proofs.tests.worked.vertices.Goals as goal
 
 pub returns-then-is_subset : goal.returns-then-is_subset

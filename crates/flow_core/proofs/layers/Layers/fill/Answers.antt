@@ -1,6 +1,6 @@
 -- Where the flow grows, it comes nearer to the sum of all capacities, which outweighs the new
 -- start of the path.
-use Rattle.counting.proofs.Common.{◌≡◌, ◌≢◌, ◌+◌, ◌-◌, ◌≤◌, List, length, sym, ◌∙◌, ap, subst, arith, get_or_read, Within}
+use Rattle.vset_core.proofs.from_counting.Common.{◌≡◌, ◌≢◌, ◌+◌, ◌-◌, ◌≤◌, List, length, sym, ◌∙◌, ap, subst, arith, get_or_read, Within}
 use Rattle.flow_core.specs.Common.{visit_at, first_node, last_node, work_left}
 use Rattle.flow_core.specs.declared.search.Visit.{Visit}
 use Rattle.flow_core.proofs.Duality.{flow-le-total}

@@ -1,5 +1,5 @@
 -- Each turn goes back, goes on or passes an arc over, by the lemmas on a path that is laid.
-use Rattle.counting.proofs.Common.{◌≡◌, ◌+◌, ◌-◌, ◌++◌, ◌∷◌, [], length, get_or, min, sym, ◌∙◌, ap, subst, arith, slice_index, get_or_read}
+use Rattle.vset_core.proofs.from_counting.Common.{◌≡◌, ◌+◌, ◌-◌, ◌++◌, ◌∷◌, [], length, get_or, min, sym, ◌∙◌, ap, subst, arith, slice_index, get_or_read}
 use Rattle.flow_core.specs.Common.{IsLaid}
 use Rattle.flow_core.proofs.Scanning.{Leads-read, taken}
 use Rattle.flow_core.proofs.Laying.{IsLaid-push, last-read, work-back, work-pass}

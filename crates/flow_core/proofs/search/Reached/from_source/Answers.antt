@@ -1,4 +1,4 @@
-use Rattle.counting.proofs.Common.{◌==◌, ◌||◌, ap, ◌∙◌, mem}
+use Rattle.vset_core.proofs.from_counting.Common.{◌==◌, ◌||◌, ap, ◌∙◌, mem}
 use Rattle.flow_core.proofs.SearchTrees.{IsSetOfVisited-root}
 use Rattle.flow_core.proofs.search.Reached.from_source.Goals as goal
 

@@ -1,5 +1,5 @@
 use Rattle.std.proofs.Common.{Ok}
-use Rattle.outside.specs.declared.sink.SinkFailed.{SinkFailed}
+use Rattle.bench_top.specs.from_outside.declared.sink.SinkFailed.{SinkFailed}
 use Rattle.front_words.proofs.Sayings.{says-none}
 use Rattle.front_top.proofs.ending.FrontEnding.say.Goals as goal
 

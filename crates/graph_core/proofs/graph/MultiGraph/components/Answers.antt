@@ -1,4 +1,4 @@
-use Rattle.counting.proofs.Common.{rules, ◌≡◌, ℕ, ◌∙◌, ap, length, List, [], arith, mem, none}
+use Rattle.vset_core.proofs.from_counting.Common.{rules, ◌≡◌, ℕ, ◌∙◌, ap, length, List, [], arith, mem, none}
 use Rattle.graph_core.specs.Common.{component_count, components, Graph, IsGraph, AreRows, graph_of}
 use Rattle.graph_core.proofs.Components.{component_count_le, length-components}
 use Rattle.graph_core.proofs.graph.MultiGraph.components.Goals.{After-len}

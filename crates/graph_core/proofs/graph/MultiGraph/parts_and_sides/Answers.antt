@@ -1,4 +1,4 @@
-use Rattle.counting.proofs.Common.{◌≡◌, ◌∙◌, ℕ, List, [], length, ap, subst, sym, mem, none}
+use Rattle.vset_core.proofs.from_counting.Common.{◌≡◌, ◌∙◌, ℕ, List, [], length, ap, subst, sym, mem, none}
 use Rattle.graph_core.specs.Common.{AreTrees, AreRows, graph_of}
 use Rattle.graph_core.specs.declared.ends.Ends.{Ends}
 use Rattle.graph_core.specs.declared.tree.TreeNode.{TreeNode}

@@ -1,4 +1,4 @@
-use Rattle.counting.proofs.Common.{rules, ◌≡◌, ◌<◌, ◌∙◌, ◌++◌, ◌∷◌, [], ℕ, List, length, drop, take, ap, arith, subst, sym, take-append_seam, map-append, Within}
+use Rattle.vset_core.proofs.from_counting.Common.{rules, ◌≡◌, ◌<◌, ◌∙◌, ◌++◌, ◌∷◌, [], ℕ, List, length, drop, take, ap, arith, subst, sym, take-append_seam, map-append, Within}
 use Rattle.graph_core.specs.Common.{Graph, with_edge, AreRows, graph_of, pair_of, IsWithinLimits, size}
 use Rattle.graph_core.specs.declared.ends.Ends.{Ends}
 use Rattle.graph_core.proofs.OneMoreEdge.{limits-with_edge}

@@ -1,4 +1,4 @@
-use Rattle.counting.proofs.Common.{◌≡◌, ◌-◌, false, some}
+use Rattle.vset_core.proofs.from_counting.Common.{◌≡◌, ◌-◌, false, some}
 use Rattle.graph_core.proofs.Simplicity.{repeats}
 use Rattle.graph_core.proofs.graph.MultiGraph.repeats.Given as goal
 

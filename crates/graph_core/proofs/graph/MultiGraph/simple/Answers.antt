@@ -1,4 +1,4 @@
-use Rattle.counting.proofs.Common.{arith, sym, false≢true, cases_eq}
+use Rattle.vset_core.proofs.from_counting.Common.{arith, sym, false≢true, cases_eq}
 use Rattle.graph_core.proofs.Simplicity.{simple_from_no_repeat, no_repeat_from_simple}
 use Rattle.graph_core.proofs.graph.MultiGraph.simple.Goals as goal
 

@@ -1,4 +1,4 @@
-use Rattle.counting.proofs.Common.{◌≡◌, ◌-◌, ◌<◌, false, ℕ, Within, some}
+use Rattle.vset_core.proofs.from_counting.Common.{◌≡◌, ◌-◌, ◌<◌, false, ℕ, Within, some}
 use Rattle.graph_core.specs.Common.{size}
 use Rattle.graph_core.proofs.Simplicity.{repeats}
 use Rattle.graph_core.proofs.graph.MultiGraph.simple.Given as goal

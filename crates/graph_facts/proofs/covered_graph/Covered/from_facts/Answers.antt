@@ -1,6 +1,6 @@
-use Rattle.counting.proofs.Common.{subst, sym, arith, mem}
+use Rattle.allowed_edges.proofs.from_counting.Common.{subst, sym, arith, mem}
 use Rattle.graph_core.proofs.Common.{Graph, IsCovered, IsGraph, covered_perfect}
-use Rattle.match_core.specs.Common.{edges_of}
+use Rattle.allowed_edges.specs.from_match_core.Common.{edges_of}
 use Rattle.graph_facts.proofs.CoveredFacts.{maximum_is_perfect}
 use Rattle.graph_facts.proofs.covered_graph.Covered.from_facts.Goals as goal
 

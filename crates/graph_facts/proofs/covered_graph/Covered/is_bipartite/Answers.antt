@@ -1,4 +1,4 @@
-use Rattle.counting.proofs.Common.{refl, mem}
+use Rattle.allowed_edges.proofs.from_counting.Common.{refl, mem}
 use Rattle.graph_facts.proofs.covered_graph.Covered.is_bipartite.Goals as goal
 
 pub returns-in-Some : goal.returns-in-Some

@@ -1,6 +1,6 @@
-use Rattle.counting.proofs.Common.{Option, List, ℕ, subst, IfSome, arith, mem, none}
+use Rattle.allowed_edges.proofs.from_counting.Common.{Option, List, ℕ, subst, IfSome, arith, mem, none}
 use Rattle.graph_core.proofs.Common.{HasPerfect, covered_perfect}
-use Rattle.match_core.specs.Common.{edges_of, ArePartners}
+use Rattle.allowed_edges.specs.from_match_core.Common.{edges_of, ArePartners}
 use Rattle.allowed_edges.proofs.AllowedPartners.{perfect_unless_none}
 use Rattle.graph_facts.proofs.CoveredFacts.{maximum_is_perfect, told_reason}
 use Rattle.graph_facts.proofs.covered_graph.Covered.of_connected.Goals.{In-Some}

@@ -1,6 +1,6 @@
-use Rattle.counting.proofs.Common.{◌≡◌, ◌&&◌, true, Bool, ap, ◌∙◌, ℕ, List, arith, mem}
+use Rattle.allowed_edges.proofs.from_counting.Common.{◌≡◌, ◌&&◌, true, Bool, ap, ◌∙◌, ℕ, List, arith, mem}
 use Rattle.graph_core.proofs.Common.{degree_congr}
-use Rattle.match_core.specs.Common.{edges_of, left_over}
+use Rattle.allowed_edges.specs.from_match_core.Common.{edges_of, left_over}
 use Rattle.graph_facts.proofs.covered_graph.Covered.own_matching.Goals as goal
 
 and_true : (b : Bool) → (b && true) ≡ b

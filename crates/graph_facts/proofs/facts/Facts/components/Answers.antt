@@ -1,4 +1,4 @@
-use Rattle.counting.proofs.Common.{ap, ◌∙◌, length, arith, none}
+use Rattle.allowed_edges.proofs.from_counting.Common.{ap, ◌∙◌, length, arith, none}
 use Rattle.graph_core.proofs.Common.{component_count, Graph, component_count_le, length-components}
 use Rattle.graph_facts.proofs.facts.Facts.components.Goals as goal
 

@@ -1,4 +1,4 @@
-use Rattle.counting.proofs.Common.{refl, subst, mem}
+use Rattle.allowed_edges.proofs.from_counting.Common.{refl, subst, mem}
 use Rattle.graph_core.proofs.Common.{Graph, IsBipartite}
 use Rattle.graph_facts.proofs.facts.Facts.is_bipartite.Goals as goal
 

@@ -1,4 +1,4 @@
-use Rattle.counting.proofs.Common.{◌≡◌, [], mem}
+use Rattle.allowed_edges.proofs.from_counting.Common.{◌≡◌, [], mem}
 use Rattle.graph_core.proofs.Common.{IsConnected}
 use Rattle.allowed_edges.proofs.FirstComponent.{none_weaker}
 use Rattle.graph_facts.proofs.Parities.{none_apart}

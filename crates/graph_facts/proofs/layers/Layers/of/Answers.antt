@@ -1,4 +1,4 @@
-use Rattle.counting.proofs.Common.{◌&&◌, ◌||◌, ◌∙◌, ap, arith, not, subst, sym, List, ℕ, Within, mem, or_false}
+use Rattle.allowed_edges.proofs.from_counting.Common.{◌&&◌, ◌||◌, ◌∙◌, ap, arith, not, subst, sym, List, ℕ, Within, mem, or_false}
 use Rattle.graph_core.proofs.Common.{row-adjacent}
 use Rattle.graph_facts.proofs.Parities.{flood_end, flood_less, flood_start, flood_step}
 use Rattle.graph_facts.proofs.layers.Layers.of.Goals as goal

@@ -1,4 +1,4 @@
-use Rattle.counting.proofs.Common.{◌&&◌, ◌||◌, not, count, mem}
+use Rattle.allowed_edges.proofs.from_counting.Common.{◌&&◌, ◌||◌, not, count, mem}
 use Rattle.graph_facts.specs.Layers.{AreOpenLayers}
 use Rattle.graph_facts.proofs.layers.Layers.of.Given as goal
 

@@ -1,4 +1,4 @@
-use Rattle.counting.proofs.Common.{◌≡◌, ◌∙◌, ap, sym, subst, List, ℕ, arith, mem, and_parts}
+use Rattle.allowed_edges.proofs.from_counting.Common.{◌≡◌, ◌∙◌, ap, sym, subst, List, ℕ, arith, mem, and_parts}
 use Rattle.graph_core.proofs.Common.{IsSide}
 use Rattle.graph_facts.proofs.Parities.{even_side, no_side}
 use Rattle.graph_facts.proofs.layers.Layers.side.Goals.{In-None}

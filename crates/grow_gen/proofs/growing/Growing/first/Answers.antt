@@ -1,4 +1,4 @@
-use Rattle.counting.proofs.Common.{◌≡◌, ℕ, ◌∷◌, [], false, ◌==◌, ◌||◌, map, ap, ap₂, ◌∙◌, arith, List, take_all, same_rising_list, rising_list-rises, set-wider, mem}
+use Rattle.graph_core.proofs.from_counting.Common.{◌≡◌, ℕ, ◌∷◌, [], false, ◌==◌, ◌||◌, map, ap, ap₂, ◌∙◌, arith, List, take_all, same_rising_list, rising_list-rises, set-wider, mem}
 use Rattle.graph_core.proofs.Common.{pair_of}
 use Rattle.grow_gen.specs.Common.{Growth}
 use Rattle.grow_gen.proofs.growing.Growing.first.Goals as goal

@@ -1,4 +1,4 @@
-use Rattle.counting.proofs.Common.{◌≡◌, ◌%◌, length, ap, ap₂, sym, ◌∙◌, subst, slice_index, mod_below, Within}
+use Rattle.graph_core.proofs.from_counting.Common.{◌≡◌, ◌%◌, length, ap, ap₂, sym, ◌∙◌, subst, slice_index, mod_below, Within}
 use Rattle.grow_gen.specs.Common.{eligible, growth_of}
 use Rattle.grow_gen.proofs.Skeleton.{eligible-within}
 use Rattle.grow_gen.proofs.growing.Growing.pick.Goals as goal

@@ -1,4 +1,4 @@
-use Rattle.counting.proofs.Common.{◌≡◌, List, sym, subst, ap, ◌∙◌, filter, arith, mem}
+use Rattle.graph_core.proofs.from_counting.Common.{◌≡◌, List, sym, subst, ap, ◌∙◌, filter, arith, mem}
 use Rattle.match_core.specs.Common.{KeepsMatching, IsOf, MatchingValue, is_clear}
 use Rattle.match_core.specs.declared.matching.MatchRow.{MatchRow}
 use Rattle.match_core.proofs.ClearedMatchings.{cleared, cleared_edges, cleared_matching, cleared_of}

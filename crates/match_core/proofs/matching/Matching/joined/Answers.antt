@@ -1,4 +1,4 @@
-use Rattle.counting.proofs.Common.{◌≡◌, true, sym, ap, ◌∙◌, subst, refl, inl, none, put, mem}
+use Rattle.graph_core.proofs.from_counting.Common.{◌≡◌, true, sym, ap, ◌∙◌, subst, refl, inl, none, put, mem}
 use Rattle.graph_core.proofs.Common.{size, first_end, second_end, add_edge}
 use Rattle.match_search.proofs.GrownRows.{with_put}
 use Rattle.match_core.specs.Common.{MatchingValue, KeepsMatching, IsOf, edges_of}

@@ -1,4 +1,4 @@
-use Rattle.counting.proofs.Common.{ℕ, ◌-◌, sym, ap, ◌∙◌, arith, inl, inr, List, [], true≢false, get_or_read, mem}
+use Rattle.graph_core.proofs.from_counting.Common.{ℕ, ◌-◌, sym, ap, ◌∙◌, arith, inl, inr, List, [], true≢false, get_or_read, mem}
 use Rattle.match_search.proofs.Instances.{first_in, near_found}
 use Rattle.match_search.proofs.instance.Instance.near.Goals as goal
 

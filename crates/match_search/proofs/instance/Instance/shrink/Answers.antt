@@ -1,4 +1,4 @@
-use Rattle.counting.proofs.Common.{◌≡◌, ℕ, ◌++◌, List, ap, sym, ◌∙◌, subst, length, take, drop, rules, take-append_seam, Set, mem}
+use Rattle.graph_core.proofs.from_counting.Common.{◌≡◌, ℕ, ◌++◌, List, ap, sym, ◌∙◌, subst, length, take, drop, rules, take-append_seam, Set, mem}
 use Rattle.match_search.specs.Common.{IsGathered, IsUnionOf}
 use Rattle.match_search.proofs.instance.Instance.shrink.Goals as goal
 

@@ -1,5 +1,5 @@
 use Rattle.std.proofs.Common.{Ok}
-use Rattle.outside.specs.declared.sink.SinkFailed.{SinkFailed}
+use Rattle.mcg6_encoder.specs.from_outside.declared.sink.SinkFailed.{SinkFailed}
 use Rattle.front_words.proofs.Sayings.{says-none}
 use Rattle.mcg6_front_top.proofs.ending.ListFrontEnding.say.Goals as goal
 

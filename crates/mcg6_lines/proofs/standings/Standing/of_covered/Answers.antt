@@ -1,7 +1,7 @@
 use Rattle.std.proofs.Common.{◌↔◌, ap, subst, ◌∙◌, IsTrue}
 use Rattle.graph_core.proofs.Common.{Graph, IsBicritical}
 use Rattle.leaf_kinds.specs.LeafKinds.{IsKind}
-use Rattle.tight_cuts.specs.Common.{candidates, first_shore}
+use Rattle.leaf_kinds.specs.from_tight_cuts.Common.{candidates, first_shore}
 use Rattle.mcg6_lines.proofs.standings.Standing.of_covered.Goals as goal
 
 pub tally_of_kind-requires-clause-kind : goal.tally_of_kind-requires-clause-kind

@@ -1,4 +1,4 @@
-use Rattle.counting.proofs.Common.{◌∙◌, ap, refl, subst, sym, option_map, both_ways}
+use Rattle.graph_core.proofs.from_counting.Common.{◌∙◌, ap, refl, subst, sym, option_map, both_ways}
 use Rattle.graph_core.proofs.Common.{Graph, IsBicritical, pair_of}
 use Rattle.separation_kit.proofs.SeparationFacts.{equivalent-none}
 use Rattle.separation_kit.proofs.first_pairs.FirstPairs.is_bicritical.Goals as goal

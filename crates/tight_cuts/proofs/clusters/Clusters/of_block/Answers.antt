@@ -1,4 +1,4 @@
-use Rattle.counting.proofs.Common.{◌≡◌, ◌∙◌, ℕ, List, ap, sym, arith, common_steps, item, last_of, mem}
+use Rattle.graph_core.proofs.from_counting.Common.{◌≡◌, ◌∙◌, ℕ, List, ap, sym, arith, common_steps, item, last_of, mem}
 use Rattle.graph_core.proofs.Common.{block}
 use Rattle.tight_cuts.proofs.ClustersAtPlaces.{name-listed}
 use Rattle.tight_cuts.proofs.clusters.Clusters.of_block.Goals as goal

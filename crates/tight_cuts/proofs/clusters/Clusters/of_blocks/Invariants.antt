@@ -1,5 +1,5 @@
 -- So far there is a set for each block, by the names in the set of the block's own name.
-use Rattle.counting.proofs.Common.{◌≡◌, ℕ, true, length, item, last_of, mem, Within}
+use Rattle.graph_core.proofs.from_counting.Common.{◌≡◌, ℕ, true, length, item, last_of, mem, Within}
 use Rattle.graph_core.proofs.Common.{block}
 use Rattle.tight_cuts.proofs.clusters.Clusters.of_blocks.Given as goal
 

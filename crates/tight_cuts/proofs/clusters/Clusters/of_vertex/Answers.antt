@@ -1,4 +1,4 @@
-use Rattle.counting.proofs.Common.{arith, common_steps, item, mem}
+use Rattle.graph_core.proofs.from_counting.Common.{arith, common_steps, item, mem}
 use Rattle.graph_core.proofs.Common.{place_in, union_of_blocks}
 use Rattle.tight_cuts.proofs.clusters.Clusters.of_vertex.Goals as goal
 

@@ -1,4 +1,4 @@
-use Rattle.counting.proofs.Common.{◌∙◌, ℕ, List, ap, arith, item, mem}
+use Rattle.graph_core.proofs.from_counting.Common.{◌∙◌, ℕ, List, ap, arith, item, mem}
 use Rattle.graph_core.proofs.Common.{place, union_of_blocks}
 use Rattle.tree_core.specs.Common.{PlaceValue}
 use Rattle.tight_cuts.proofs.ClustersAtPlaces.{clusters-of_vertices, item-pushed}

@@ -1,5 +1,5 @@
 -- So far there is a set for each vertex: the blocks of the cluster of its own.
-use Rattle.counting.proofs.Common.{◌≡◌, ℕ, length, item, mem, Within}
+use Rattle.graph_core.proofs.from_counting.Common.{◌≡◌, ℕ, length, item, mem, Within}
 use Rattle.graph_core.proofs.Common.{place, union_of_blocks}
 use Rattle.tight_cuts.proofs.clusters.Clusters.of_vertices.Given as goal
 

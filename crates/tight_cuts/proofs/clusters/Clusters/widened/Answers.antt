@@ -1,4 +1,4 @@
-use Rattle.counting.proofs.Common.{◌≡◌, ◌+◌, true, arith, common_steps, item, mem}
+use Rattle.graph_core.proofs.from_counting.Common.{◌≡◌, ◌+◌, true, arith, common_steps, item, mem}
 use Rattle.tight_cuts.proofs.OneSided.{with_cluster}
 use Rattle.tight_cuts.proofs.clusters.Clusters.widened.Goals.{then-contains, else-contains}
 use Rattle.tight_cuts.proofs.clusters.Clusters.widened.Goals as goal

@@ -1,4 +1,4 @@
-use Rattle.counting.proofs.Common.{◌≡◌, ℕ, true, mem}
+use Rattle.graph_core.proofs.from_counting.Common.{◌≡◌, ℕ, true, mem}
 use Rattle.tight_cuts.specs.Common.{IsOneSided}
 use Rattle.tight_cuts.proofs.clusters.Clusters.widened.Given as goal
 
