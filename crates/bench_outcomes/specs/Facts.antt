@@ -23,7 +23,7 @@ pub record HasMaximum (g : Graph) (edges missed : ℕ) : Type 0 where
 -- candidate, if there is one
 pub record IsStructure (g : Graph) (structure : Structure) : Type 0 where
   pub partition : structure.classes ≡ classes g
-  pub equivalent : option_map pair_of structure.equivalent ≡ equivalent_pair g
+  pub equivalent : option_map pair_of structure.unlike ≡ equivalent_pair g
   pub separates : option_map pair_of structure.cutpair ≡ cut_pair g
   pub kind : IsKind g structure.kind
   pub cut : cut_of structure.kind ≡ first_shore (candidates g)
@@ -42,9 +42,9 @@ pub record IsAnalysis (g : Graph) (lines : AnalysisLines) : Type 0 where
   pub components : lines.components ≡ component_count g none
   pub bipartite : IsTrue lines.bipartite ↔ IsBipartite g
   pub maximum : HasMaximum g lines.matching lines.deficiency
-  pub d : Lists g.order lines.sets.d (InD g)
-  pub a : Lists g.order lines.sets.a (InA g)
-  pub c : Lists g.order lines.sets.c (InC g)
+  pub d : Lists g.order lines.d (InD g)
+  pub a : Lists g.order lines.a (InA g)
+  pub c : Lists g.order lines.c (InC g)
   pub allowed : Lists (size g) lines.allowed (Allowed g)
   pub verdict : IsVerdict g lines.verdict
   pub structure : TellsStructure g lines.verdict lines.structure

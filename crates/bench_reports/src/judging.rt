@@ -21,7 +21,7 @@ use bench_outcomes::report_text::{AnalysisLines, analysis, graph6_line};
 use bench_outcomes::{Report, Status};
 use gallai_edmonds::graph_facts::Facts;
 use gallai_edmonds::sets_of;
-use graph_core::MultiGraph;
+use graph_core::{MultiGraph, ThreeSets};
 use graph_text::{Named, write_named};
 use graph6_text::write_graph6;
 use std::alloc::{AllocError as Memory, Global};
@@ -50,7 +50,7 @@ fn lines_of(alloc: Global, facts: Facts) -> Result<AnalysisLines, Memory>
     ensures { IfOk result (λ lines. IsAnalysis facts.entry lines) }
 {
     let (matching, deficiency) = maximum_sizes(&facts);
-    let sets = sets_of(&facts);
+    let ThreeSets { d, a, c } = sets_of(&facts);
     let allowed = facts.allowed(alloc)?;
     let verdict = facts.verdict();
     let order = facts.order();
@@ -65,7 +65,9 @@ fn lines_of(alloc: Global, facts: Facts) -> Result<AnalysisLines, Memory>
         bipartite,
         matching,
         deficiency,
-        sets,
+        d,
+        a,
+        c,
         allowed,
         verdict,
         structure,

@@ -17,12 +17,12 @@ fn structure(alloc: Global, c: &Covered) -> Result<Structure, Memory>
 {
     let classes = classes_of(alloc, c)?;
     let pairs = FirstPairs::with_classes(c, &classes);
-    let equivalent = pairs.equivalent();
+    let unlike = pairs.equivalent();
     let cutpair = pairs.any_cut();
     let kind = kind_of(alloc, &pairs)?;
     Ok(Structure {
         classes,
-        equivalent,
+        unlike,
         cutpair,
         kind,
     })

@@ -41,9 +41,9 @@ front-once g is a b one two =
     let bipartite = answers-once a.bipartite b.bipartite (IsBipartite g) one.bipartite two.bipartite in
     let matching = edges-once g a.matching a.deficiency b.matching b.deficiency one.maximum two.maximum in
     let missed = missed-once g is a.matching a.deficiency b.matching b.deficiency one.maximum two.maximum in
-    let in_d = lists-once g.order a.sets.d b.sets.d (InD g) one.d two.d in
-    let in_a = lists-once g.order a.sets.a b.sets.a (InA g) one.a two.a in
-    let in_c = lists-once g.order a.sets.c b.sets.c (InC g) one.c two.c in
+    let in_d = lists-once g.order a.d b.d (InD g) one.d two.d in
+    let in_a = lists-once g.order a.a b.a (InA g) one.a two.a in
+    let in_c = lists-once g.order a.c b.c (InC g) one.c two.c in
     let allowed = lists-once (size g) a.allowed b.allowed (Allowed g) one.allowed two.allowed in
     λ i. front (record a {
       order = order i;
@@ -52,7 +52,9 @@ front-once g is a b one two =
       bipartite = bipartite i;
       matching = matching i;
       deficiency = missed i;
-      sets = record { d = in_d i; a = in_a i; c = in_c i };
+      d = in_d i;
+      a = in_a i;
+      c = in_c i;
       allowed = allowed i;
     })
 

@@ -24,12 +24,12 @@ pub fn sets_of(facts: &Facts) -> ThreeSets
     ensures c { Lists facts.now.order result.c (InC facts.now) }
 {
     let frame = facts.frame();
-    let met = frame.sets.outer.union(frame.sets.inner);
+    let met = frame.outer.union(frame.inner);
     let rest = VSet::full(facts.order()).minus(met);
     rest.rises();
     ThreeSets {
-        d: frame.sets.outer,
-        a: frame.sets.inner,
+        d: frame.outer,
+        a: frame.inner,
         c: rest,
     }
 }

@@ -11,12 +11,12 @@ use Rattle.allowed_edges.specs.from_match_core.declared.frames.FrameSets.{FrameS
 pub record IsFrame (g : Graph) (f : FrameSets) : Type 0 where
   pub of : IsOf g f.found.matching
   pub maximum : IsMaximum g none (mem (edges_of f.found.matching))
-  pub berge : f.found.berge ≡ f.sets.inner
-  pub attains : Attains g none (mem f.sets.inner) (mem (edges_of f.found.matching))
-  pub outer_in : IsRisingIn g.order f.sets.outer
-  pub inner_in : IsRisingIn g.order f.sets.inner
-  pub missed : (v : ℕ) → Within g.order v → (mem f.sets.outer v ≡ true) ↔ InD g v
-  pub next : (v : ℕ) → Within g.order v → (mem f.sets.inner v ≡ true) ↔ InA g v
+  pub berge : f.found.berge ≡ f.inner
+  pub attains : Attains g none (mem f.inner) (mem (edges_of f.found.matching))
+  pub outer_in : IsRisingIn g.order f.outer
+  pub inner_in : IsRisingIn g.order f.inner
+  pub missed : (v : ℕ) → Within g.order v → (mem f.outer v ≡ true) ↔ InD g v
+  pub next : (v : ℕ) → Within g.order v → (mem f.inner v ≡ true) ↔ InA g v
 
 -- the components of g, one side if g is bipartite, its frame, and its partners, known if and only
 -- if g has a perfect matching

@@ -7,7 +7,7 @@ ghost use Rattle.match_core.specs.Common.{IsOf, edges_of};
 use crate::matching::{Matching, matching_by};
 use graph_core::MultiGraph;
 use graph_core::vset_core::VSet;
-use match_search::{FinalSets, Mated, find_mates};
+use match_search::{Mated, find_mates};
 use std::alloc::{AllocError as Memory, Global};
 
 /// A maximum matching and a Berge set S, which shows it to be maximum: the matching misses exactly
@@ -18,13 +18,15 @@ pub struct Found {
     pub berge: VSet,
 }
 
-/// A maximum matching with the Gallai-Edmonds sets: `sets.outer` is D, the vertices that some
-/// maximum matching misses, and `sets.inner` is A, the other vertices adjacent to D. A is the Berge
-/// set of `found`.
+/// A maximum matching with the Gallai-Edmonds sets.
 #[derive(Drop)]
 pub struct FrameSets {
+    /// A maximum matching, with A as its Berge set.
     pub found: Found,
-    pub sets: FinalSets,
+    /// D: the vertices that some maximum matching misses.
+    pub outer: VSet,
+    /// A: the other vertices adjacent to D.
+    pub inner: VSet,
 }
 
 /// A maximum matching of `g` and a Berge set S, here `berge`: the matching misses exactly o(S) -
@@ -49,19 +51,19 @@ pub fn maximum(alloc: Global, g: &MultiGraph) -> Result<Found, Memory>
 pub fn frame(alloc: Global, g: &MultiGraph) -> Result<FrameSets, Memory>
     ensures of { IfOk result (λ f. IsOf g.now f.found.matching) }
     ensures maximum { IfOk result (λ f. IsMaximum g.now none (mem (edges_of f.found.matching))) }
-    ensures berge { IfOk result (λ f. f.found.berge ≡ f.sets.inner) }
+    ensures berge { IfOk result (λ f. f.found.berge ≡ f.inner) }
     ensures attains { IfOk result
-        (λ f. Attains g.now none (mem f.sets.inner) (mem (edges_of f.found.matching))) }
-    ensures outer_in { IfOk result (λ f. IsRisingIn g.now.order f.sets.outer) }
-    ensures inner_in { IfOk result (λ f. IsRisingIn g.now.order f.sets.inner) }
+        (λ f. Attains g.now none (mem f.inner) (mem (edges_of f.found.matching))) }
+    ensures outer_in { IfOk result (λ f. IsRisingIn g.now.order f.outer) }
+    ensures inner_in { IfOk result (λ f. IsRisingIn g.now.order f.inner) }
     ensures odd { IfOk result
-        (λ f. (v : ℕ) → Within g.now.order v → (mem f.sets.outer v ≡ true) ↔
-        ((mem f.sets.inner v ≡ false) ×
-        (is_odd (count g.now.order (joined g.now (mem f.sets.inner) v)) ≡ true))) }
+        (λ f. (v : ℕ) → Within g.now.order v → (mem f.outer v ≡ true) ↔
+        ((mem f.inner v ≡ false) ×
+        (is_odd (count g.now.order (joined g.now (mem f.inner) v)) ≡ true))) }
     ensures missed { IfOk result
-        (λ f. (v : ℕ) → Within g.now.order v → (mem f.sets.outer v ≡ true) ↔ InD g.now v) }
+        (λ f. (v : ℕ) → Within g.now.order v → (mem f.outer v ≡ true) ↔ InD g.now v) }
     ensures next { IfOk result
-        (λ f. (v : ℕ) → Within g.now.order v → (mem f.sets.inner v ≡ true) ↔ InA g.now v) }
+        (λ f. (v : ℕ) → Within g.now.order v → (mem f.inner v ≡ true) ↔ InA g.now v) }
 {
     g.keeps_limits();
     let Mated { mate, sets } = find_mates(alloc, g, VSet::empty())?;
@@ -73,6 +75,7 @@ pub fn frame(alloc: Global, g: &MultiGraph) -> Result<FrameSets, Memory>
             matching,
             berge: sets.inner,
         },
-        sets,
+        outer: sets.outer,
+        inner: sets.inner,
     })
 }

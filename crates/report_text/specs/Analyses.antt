@@ -16,7 +16,7 @@ numbers_told lines = (graph_lines lines ++ matching_line lines.matching) ++ defi
 
 -- the lines of the Gallai-Edmonds sets after others
 abbrev pub with_three_sets : List ℕ → AnalysisLines → List ℕ
-with_three_sets before lines = ((before ++ list_line (codes "D") lines.sets.d) ++ list_line (codes "A") lines.sets.a) ++ list_line (codes "C") lines.sets.c
+with_three_sets before lines = ((before ++ list_line (codes "D") lines.d) ++ list_line (codes "A") lines.a) ++ list_line (codes "C") lines.c
 
 -- the lines of the allowed edges and of the verdict after others
 abbrev pub with_verdict : List ℕ → AnalysisLines → List ℕ

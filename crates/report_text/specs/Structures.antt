@@ -48,4 +48,4 @@ leaf_kind_line kind = list_line (codes "kind " ++ kind_word kind) (shore_of kind
 -- all lines on the structure
 unfoldable pub structure_text : Structure → List ℕ
 structure_text structure =
-    ((classes_lines structure.classes ++ bicritical_line structure.equivalent) ++ cut_pair_line structure.cutpair) ++ leaf_kind_line structure.kind
+    ((classes_lines structure.classes ++ bicritical_line structure.unlike) ++ cut_pair_line structure.cutpair) ++ leaf_kind_line structure.kind

@@ -6,7 +6,8 @@ use crate::numbers::{push_numbers_line, push_set_line};
 use crate::structures::{Structure, push_structure};
 use crate::verdicts::push_verdict;
 use crate::words::yes_or_no;
-use graph_core::{Numbers, ThreeSets, Verdict};
+use graph_core::vset_core::VSet;
+use graph_core::{Numbers, Verdict};
 use std::alloc::{AllocError as Memory, Global};
 
 /// What `analyse` reports about a graph.
@@ -24,8 +25,12 @@ pub struct AnalysisLines {
     pub matching: u32,
     /// The number of vertices that a maximum matching misses.
     pub deficiency: u32,
-    /// The Gallai-Edmonds sets.
-    pub sets: ThreeSets,
+    /// D, of the Gallai-Edmonds sets: the vertices that some maximum matching misses.
+    pub d: VSet,
+    /// A: the vertices outside D that are adjacent to a vertex of D.
+    pub a: VSet,
+    /// C: the rest.
+    pub c: VSet,
     /// The edges that lie in a perfect matching.
     pub allowed: Numbers,
     /// Whether the graph is matching covered, and if not, why.
@@ -72,9 +77,9 @@ fn push_three_sets(text: &mut String, lines: &AnalysisLines) -> Result<(), Memor
     ensures { OnOk result
         (string_bytes text.new ≡ with_three_sets (string_bytes text.old) lines.now) }
 {
-    push_set_line(text, "D", lines.sets.d)?;
-    push_set_line(text, "A", lines.sets.a)?;
-    push_set_line(text, "C", lines.sets.c)
+    push_set_line(text, "D", lines.d)?;
+    push_set_line(text, "A", lines.a)?;
+    push_set_line(text, "C", lines.c)
 }
 
 // The lines from that of the graph to that of the verdict, appended to an empty text.

@@ -16,7 +16,7 @@ pub struct Structure {
     pub classes: SetList,
     /// The first pair u < v in lexicographic order such that G - u - v has no perfect matching;
     /// none if the graph is bicritical.
-    pub equivalent: Option<Ends>,
+    pub unlike: Option<Ends>,
     /// The first pair u < v in lexicographic order such that G - u - v has at least two components,
     /// or none.
     pub cutpair: Option<Ends>,
@@ -53,11 +53,11 @@ fn push_pair_line(text: &mut String, words: &str, pair: Ends) -> Result<(), Memo
     write!(text, "{words} {a} {b}\n")
 }
 
-fn push_bicritical(text: &mut String, equivalent: Option<Ends>) -> Result<(), Memory>
+fn push_bicritical(text: &mut String, unlike: Option<Ends>) -> Result<(), Memory>
     ensures { OnOk result
-        (string_bytes text.new ≡ string_bytes text.old ++ bicritical_line equivalent) }
+        (string_bytes text.new ≡ string_bytes text.old ++ bicritical_line unlike) }
 {
-    match equivalent {
+    match unlike {
         None => write!(text, "bicritical yes\n"),
         Some(pair) => push_pair_line(text, "bicritical no", pair),
     }
@@ -99,7 +99,7 @@ pub fn push_structure(text: &mut String, structure: &Structure) -> Result<(), Me
         (string_bytes text.new ≡ string_bytes text.old ++ structure_text structure.now) }
 {
     push_classes(text, &structure.classes)?;
-    push_bicritical(text, structure.equivalent)?;
+    push_bicritical(text, structure.unlike)?;
     push_cut_pair(text, structure.cutpair)?;
     push_kind(text, &structure.kind)
 }

@@ -4,7 +4,7 @@ ghost use Rattle.std.specs.Prelude.{◌≡◌, ◌↔◌, IfSome, IsTrue};
 ghost use Rattle.std.specs.Option.{option_map};
 ghost use Rattle.graph_core.specs.Common.{IsCovered, IsBipartite, IsBicritical, classes, cut_pair, equivalent_pair, IsWithinLimits, pair_of};
 
-use crate::critical::{cut_pair, equivalent_pair};
+use crate::critical::{equivalent_pair, first_cut_pair};
 use barrier_kit::graph_facts::Covered;
 use graph_core::{Ends, SetList};
 use std::marker::Model;
@@ -129,7 +129,7 @@ impl<'c, 'g> FirstPairs<'c, 'g> {
         if self.is_bicritical() {
             return self.cut();
         }
-        cut_pair(self.covered.graph())
+        first_cut_pair(self.covered.graph())
     }
 }
 
@@ -140,6 +140,6 @@ fn cut_where_bicritical(c: &Covered, equivalent: Option<Ends>) -> Option<Ends>
 {
     match equivalent {
         Some(_) => None,
-        None => cut_pair(c.graph()),
+        None => first_cut_pair(c.graph()),
     }
 }

@@ -24,8 +24,8 @@ mod shores;
 
 // Passed on to the crates above.
 pub use barrier_kit::graph_facts;
-pub use critical::{cut_pair, equivalent_pair, not_bicritical, parts_without};
+pub use critical::{cut_pair, equivalent_pair, first_cut_pair, not_bicritical, parts_without};
 pub use first_pairs::FirstPairs;
 pub use laws::{brick_law, first_pairs_law, separation_cuts_law, separation_law};
-pub use pairs::all_pairs;
+pub use pairs::{Pair, all_pairs};
 pub use shores::{first_separation_cut, separation_cuts};

@@ -7,6 +7,9 @@ use graph_core::Ends;
 use graph_core::vset_core::MOST_VERTICES;
 use std::alloc::{AllocError as Memory, Global};
 
+/// Two vertices, `a` < `b`.
+pub type Pair = Ends;
+
 // Appends the pairs of a with the larger numbers up to n.
 fn push_pairs(pairs: &mut Vec<Ends>, n: u32, a: u32) -> Result<(), Memory>
     requires few { n ≤ MOST_VERTICES }

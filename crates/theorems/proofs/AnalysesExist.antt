@@ -71,7 +71,9 @@ analysis-exists g is =
         bipartite = b.0;
         matching = count (size g) m.0;
         deficiency = missed_count g none m.0;
-        sets = record { d = rising_list g.order t.0; a = rising_list g.order t.1; c = rising_list g.order t.2 };
+        d = rising_list g.order t.0;
+        a = rising_list g.order t.1;
+        c = rising_list g.order t.2;
         allowed = rising_list (size g) (is_allowed g);
         verdict = v.0;
         structure = v.1;

@@ -81,13 +81,13 @@ module _ (lines : AnalysisLines) where
   number_lines = graph_words ∷ components_words ∷ bipartite_words ∷ matching_words ∷ deficiency_words ∷ []
 
   abbrev d_words : List (List ℕ)
-  d_words = codes "D" ∷ map decimal lines.sets.d
+  d_words = codes "D" ∷ map decimal lines.d
 
   abbrev a_words : List (List ℕ)
-  a_words = codes "A" ∷ map decimal lines.sets.a
+  a_words = codes "A" ∷ map decimal lines.a
 
   abbrev c_words : List (List ℕ)
-  c_words = codes "C" ∷ map decimal lines.sets.c
+  c_words = codes "C" ∷ map decimal lines.c
 
   abbrev first_lines : List (List (List ℕ))
   first_lines = number_lines ++ d_words ∷ a_words ∷ c_words ∷ []
@@ -102,9 +102,9 @@ module _ (lines : AnalysisLines) where
 
   sets-written : with_three_sets (numbers_told lines) lines ≡ written first_lines
   sets-written =
-      let d = next-written number_lines d_words (numbers_told lines) (list_line (codes "D") lines.sets.d) numbers-written (list-written (codes "D") lines.sets.d) in
-      let a = next-written (number_lines ++ d_words ∷ []) a_words (numbers_told lines ++ list_line (codes "D") lines.sets.d) (list_line (codes "A") lines.sets.a) d (list-written (codes "A") lines.sets.a) in
-      next-written (number_lines ++ d_words ∷ a_words ∷ []) c_words ((numbers_told lines ++ list_line (codes "D") lines.sets.d) ++ list_line (codes "A") lines.sets.a) (list_line (codes "C") lines.sets.c) a (list-written (codes "C") lines.sets.c)
+      let d = next-written number_lines d_words (numbers_told lines) (list_line (codes "D") lines.d) numbers-written (list-written (codes "D") lines.d) in
+      let a = next-written (number_lines ++ d_words ∷ []) a_words (numbers_told lines ++ list_line (codes "D") lines.d) (list_line (codes "A") lines.a) d (list-written (codes "A") lines.a) in
+      next-written (number_lines ++ d_words ∷ a_words ∷ []) c_words ((numbers_told lines ++ list_line (codes "D") lines.d) ++ list_line (codes "A") lines.a) (list_line (codes "C") lines.c) a (list-written (codes "C") lines.c)
 
   -- what follows them in the report
   abbrev BeginsSo : List ℕ → Type 0
@@ -190,14 +190,14 @@ module _ (g : Graph) (read : IsRead g) (lines : AnalysisLines) (right : IsAnalys
   deficiency-words : AreWords (codes "deficiency" ∷ decimal lines.deficiency ∷ [])
   deficiency-words = number-words (codes "deficiency") refl lines.deficiency small-deficiency
 
-  d-words : AreWords (codes "D" ∷ map decimal lines.sets.d)
-  d-words = list-words (codes "D") refl lines.sets.d (InD g) right.d
+  d-words : AreWords (codes "D" ∷ map decimal lines.d)
+  d-words = list-words (codes "D") refl lines.d (InD g) right.d
 
-  a-words : AreWords (codes "A" ∷ map decimal lines.sets.a)
-  a-words = list-words (codes "A") refl lines.sets.a (InA g) right.a
+  a-words : AreWords (codes "A" ∷ map decimal lines.a)
+  a-words = list-words (codes "A") refl lines.a (InA g) right.a
 
-  c-words : AreWords (codes "C" ∷ map decimal lines.sets.c)
-  c-words = list-words (codes "C") refl lines.sets.c (InC g) right.c
+  c-words : AreWords (codes "C" ∷ map decimal lines.c)
+  c-words = list-words (codes "C") refl lines.c (InC g) right.c
 
   numbers-words : AllByRecursion AreWords (number_lines lines)
   numbers-words = (graph-words, (components-words, (yes-words lines.bipartite, (matching-words, (deficiency-words, tt)))))
@@ -220,18 +220,18 @@ module _ (g : Graph) (read : IsRead g) (lines : AnalysisLines) (right : IsAnalys
   pub d-read : ListsSet g.order output (codes "D") (InD g)
   d-read =
       let after = unwords (a_words lines) ∷ unwords (c_words lines) ∷ tail in
-      listed (codes "D") lines.sets.d (InD g) right.d
+      listed (codes "D") lines.d (InD g) right.d
       (ap (words_behind (codes "D")) cut ∙ past (codes "D") (number_lines lines) (unwords (d_words lines) ∷ after) numbers-words (refl, (refl, (refl, (refl, (refl, tt))))) ∙ take_line (codes "D") (d_words lines) after d-words refl)
 
   pub a-read : ListsSet g.order output (codes "A") (InA g)
   a-read =
       let after = unwords (c_words lines) ∷ tail in
-      listed (codes "A") lines.sets.a (InA g) right.a
+      listed (codes "A") lines.a (InA g) right.a
       (ap (words_behind (codes "A")) cut ∙ past (codes "A") (number_lines lines) (unwords (d_words lines) ∷ unwords (a_words lines) ∷ after) numbers-words (refl, (refl, (refl, (refl, (refl, tt)))))
       ∙ pass (codes "A") (d_words lines) (unwords (a_words lines) ∷ after) d-words refl ∙ take_line (codes "A") (a_words lines) after a-words refl)
 
   pub c-read : ListsSet g.order output (codes "C") (InC g)
   c-read =
-      listed (codes "C") lines.sets.c (InC g) right.c
+      listed (codes "C") lines.c (InC g) right.c
       (ap (words_behind (codes "C")) cut ∙ past (codes "C") (number_lines lines) (unwords (d_words lines) ∷ unwords (a_words lines) ∷ unwords (c_words lines) ∷ tail) numbers-words (refl, (refl, (refl, (refl, (refl, tt)))))
       ∙ pass (codes "C") (d_words lines) (unwords (a_words lines) ∷ unwords (c_words lines) ∷ tail) d-words refl ∙ pass (codes "C") (a_words lines) (unwords (c_words lines) ∷ tail) a-words refl ∙ take_line (codes "C") (c_words lines) tail c-words refl)

@@ -46,9 +46,9 @@ pub record ListsSet (n : ℕ) (text word : List ℕ) (P : ℕ → Type 0) : Type
 -- the vertices that some maximum matching misses, their other neighbours, the rest
 pub record TellsSets (named : NamedGraph) (output : List ℕ) : Type 0 where
   pub lines : AnalysisLines
-  pub d : Lists named.graph.order lines.sets.d (InD named.graph)
-  pub a : Lists named.graph.order lines.sets.a (InA named.graph)
-  pub c : Lists named.graph.order lines.sets.c (InC named.graph)
+  pub d : Lists named.graph.order lines.d (InD named.graph)
+  pub a : Lists named.graph.order lines.a (InA named.graph)
+  pub c : Lists named.graph.order lines.c (InC named.graph)
   pub text : output ≡ with_given_names (analysis_text lines) named.names false
   pub line_d : ListsSet named.graph.order output (codes "D") (InD named.graph)
   pub line_a : ListsSet named.graph.order output (codes "A") (InA named.graph)

@@ -19,6 +19,7 @@ mod block_images;
 mod comparing;
 mod exchanges;
 mod exposing;
+pub mod laws;
 mod leaf_maps;
 mod leaf_orders;
 mod move_maps;

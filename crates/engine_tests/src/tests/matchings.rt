@@ -63,9 +63,13 @@ static SETS: [(u32, &[(u32, u32)], &[u32], &[u32], &[u32]); 4] = [
 
 // Whether the frame of the graph has these sets.
 fn has_frame(alloc: Global, graph: &MultiGraph, wanted: [&[u32]; 3]) -> Result<bool, Fail> {
-    let [outer, inner, berge] = wanted;
-    let FrameSets { found, sets } = frame(alloc, graph)?;
-    let is_split = sets.outer == set_of(outer) && sets.inner == set_of(inner);
+    let [d, a, berge] = wanted;
+    let FrameSets {
+        found,
+        outer,
+        inner,
+    } = frame(alloc, graph)?;
+    let is_split = outer == set_of(d) && inner == set_of(a);
     Ok(is_split && found.berge == set_of(berge))
 }
 

@@ -152,7 +152,7 @@ fn finds_the_first_pairs(rt: HostRuntime) -> Result<(), Fail> {
     for (order, edges, equivalent, cut) in &PAIRS {
         let graph = made(rt.alloc(), *order, edges)?;
         assert!(rt; found_pair(not_bicritical(rt.alloc(), &graph)?) == *equivalent);
-        assert!(rt; found_pair(cut_pair(&graph)) == *cut);
+        assert!(rt; found_pair(cut_pair(rt.alloc(), &graph)?) == *cut);
     }
     Ok(())
 }

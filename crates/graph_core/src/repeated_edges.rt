@@ -5,6 +5,14 @@ ghost use Rattle.graph_core.specs.Common.{size, first_end, second_end, has_ends,
 
 use crate::MultiGraph;
 
+/// Whether `g` is simple: no two edges join the same two vertices. Takes no memory. Takes O(m * m)
+/// time.
+pub fn simple(g: &MultiGraph) -> bool
+    ensures { IsTrue result ↔ IsSimple g.now }
+{
+    g.simple()
+}
+
 impl MultiGraph {
     /// Whether the graph is simple: no two edges join the same two vertices. Takes no memory. Takes
     /// O(m * m) time.
