@@ -4,13 +4,13 @@ pub use Rattle.outside.specs.Limits.{most_bytes, most_line}
 pub use Rattle.outside.specs.Shelf.{NamedFile, file_named, HoldsLonger, Answer, answer_seen, AnswersInTurn, ReadsInTurn, ReadsFirst, TellsFile, IsLonger}
 pub use Rattle.outside.specs.Sink.{appended, taken_by, WritesTake, IsWritten, IsCutOff}
 pub use Rattle.outside.specs.Keeping.{bytes_kept, IsFileOf, bytes_in, KeepsRead}
+pub use Rattle.outside.specs.Noting.{NotesFiles, named_texts, keeping-notes}
 pub use Rattle.outside.specs.Source.{prepended, IsAtEnd, given_by}
 pub use Rattle.outside.specs.MemShelf.{ShelfState, FailsNext, MayTakeBytes, MayAnswer, IsRead}
 pub use Rattle.outside.specs.MemSink.{SinkState, share, IsWrite}
 pub use Rattle.outside.specs.MemSource.{SourceState, size_for, portion, bytes_given, IsGiven}
 pub use Rattle.outside.specs.StoredFile.{named_files}
-pub use Rattle.outside.specs.DirShelf.{OpenState, IsOpened, given_after}
+pub use Rattle.outside.specs.DirShelf.{OpenState, given_after, CountsFault, IsOpened}
 pub use Rattle.outside.specs.OutSink.{PrintState, HasPrinted}
-pub use Rattle.outside.specs.Noting.{NotesFiles, named_texts, keeping-notes}
 pub use Rattle.outside.specs.InSource.{ReadState, read_after, HasTaken}
 pub use Rattle.outside.specs.LineSink.{LineState, HasBegun, HasSaid}

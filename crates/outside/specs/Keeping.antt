@@ -1,5 +1,5 @@
 -- What a shelf that keeps what it last read has kept.
--- Stated by: outside.
+-- Stated by: outside. Used by: front_top.
 use Rattle.std.specs.Prelude.{◌≡◌, ◌⊎◌, ℕ, List, IsOk, Option, None, Some, Ok, Err, option_map}
 use Rattle.std.specs.Global.{Vec}
 use Rattle.outside.specs.Shelf.{Answer, NamedFile, TellsFile}
