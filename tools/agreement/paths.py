@@ -3,6 +3,7 @@ import pathlib
 import re
 
 FROM_BELOW = re.compile(r"\bRattle\.\w+\.(specs|proofs)\.from_(\w+)")
+IN_CODE = re.compile(r"(?<![\w:])(\w+)::(\w+)::")
 CODE_FROM_BELOW = re.compile(r"\b\w+::(specs|proofs)::from_(\w+)")
 
 
@@ -12,8 +13,7 @@ def crates():
     return [line.split(":")[0].split()[0] for line in lines if line.strip() and not line.startswith("#")]
 
 
-def from_home(text, names=None):
-    """A text in which each path through a crate that passes on begins at the crate that declares the name."""
+def from_home(text, names):
+    """A text in which each path through a crate that passes on begins at the crate that declares the name; `names` are the crates."""
     text = CODE_FROM_BELOW.sub(r"\2::\1", FROM_BELOW.sub(r"Rattle.\2.\1", text))
-    words = "|".join(names or crates())
-    return re.sub(rf"(?<![\w:])(?:{words})::({words})::", r"\1::", text)
+    return IN_CODE.sub(lambda it: f"{it[2]}::" if it[1] in names and it[2] in names else it[0], text)
