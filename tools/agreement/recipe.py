@@ -21,6 +21,7 @@ EXCEPTIONS = {
     "tools/agreement/recipe.py": "this file",
     "tools/agree_docs": "what this file does",
     "tools/README.md": "the same",
+    "tools/selftest": "faults planted in what this file compares",
 }
 
 

@@ -34,7 +34,10 @@ def same(what, one, other):
 
 
 def constant(source, name):
-    return re.search(rf'const {name}: &str =\s*"(.*?)";', source, re.S)[1]
+    found = re.search(rf'const {name}: &str =\s*"(.*?)";', source, re.S)
+    if not found:
+        wrong.append(f"there is no constant {name}")
+    return found[1] if found else ""
 
 
 def arms(source, function):
@@ -224,7 +227,7 @@ def compare_pages(table):
         rows, pages = rows_of(table, name), read(f"crates/command_table/src/{file}.rt")
         commands = list(dict.fromkeys(it.command for it in rows))
         same(f"the pages of {program}", commands, [it.lower() for it in re.findall(r'^pub const (\w+): &str =\s*"', pages, re.M)])
-        for command in commands:
+        for command in (it for it in commands if f"const {it.upper()}:" in pages):
             compare_page(constant(pages, command.upper()), [it for it in rows if it.command == command], constant(table, usage), program)
         count += len(commands)
     return count
