@@ -26,9 +26,10 @@ The package decides nothing about graphs; what is decided is decided by the prog
 exception is `mcg.verify`, a second opinion that checks reports without them.
 """
 from .analysis import Analysis, analyse
-from .comparisons import Comparison, Replay, compare, replay, script
+from .comparisons import Comparison, compare, script
 from .decompositions import Picks, Refusal, TreeCheck, check, decompose
-from .ear_lists import Ear, Ears, EarsCheck, check_ears, ears
+from .ear_checks import EarsCheck, check_ears
+from .ear_lists import Ear, Ears, ears
 from .errors import (
     BadGraph,
     BadInput,
@@ -44,6 +45,7 @@ from .errors import (
 from .graphs import Graph
 from .lists import Kind, ListComponent, ListLeaf, elementary, kinds, leaves, select
 from .moves import Moves, Rotate, Switch
+from .replays import Replay, replay
 from .trees import Cut, Decomposition, Leaf
 
 __all__ = [

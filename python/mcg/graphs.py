@@ -4,12 +4,13 @@ from __future__ import annotations
 import importlib
 import re
 from collections import Counter
-from typing import Any, Dict, FrozenSet, Iterable, List, Sequence, Tuple, Union
+from typing import Any, Dict, Iterable, List, Sequence, Tuple, Union
 
 from . import graph6, texts
 from .errors import BadGraph, BadText
 from .graph_texts import read_graph
-from .sources import Edge, Label, Source, edge_key, edge_numbers, parts_of
+from .labels import Label, VertexSet, counted
+from .sources import Edge, Source, edge_key, edge_numbers, parts_of
 
 
 class Graph:
@@ -97,9 +98,10 @@ class Graph:
             raise IndexError(number)
         return self.edges[number - 1]
 
-    def labels(self, numbers: Iterable[int]) -> FrozenSet[Label]:
-        """Returns the set of the vertices with these numbers."""
-        return frozenset(self.label(k) for k in numbers)
+    def labels(self, numbers: Iterable[int]) -> VertexSet[Label]:
+        """Returns the set of the vertices with these numbers; it lists them in the order of
+        `vertices`."""
+        return VertexSet(self.label(k) for k in sorted(numbers))
 
     def numbers(self, labels: Iterable[Label]) -> List[int]:
         """Returns the numbers of these vertices, rising."""
@@ -155,13 +157,22 @@ class Graph:
     def __eq__(self, other: object) -> bool:
         if not isinstance(other, Graph):
             return NotImplemented
-        return (self.vertices, self.edges) == (other.vertices, other.edges)
+        return self._parts() == other._parts()
 
     def __hash__(self) -> int:
-        return hash((self.vertices, self.edges))
+        return hash(self._parts())
+
+    def _parts(self) -> Tuple[Any, Any]:
+        """What two graphs share if they are equal: the vertices and the edges, in any order."""
+        return frozenset(self._numbers), frozenset(self._edge_numbers)
+
+    def is_numbered_as(self, other: Graph) -> bool:
+        """Returns whether the graphs are equal and have the same numbers."""
+        return (self.vertices, self.edges) == (other.vertices, other.edges)
 
     def __repr__(self) -> str:
-        return f"<mcg.Graph of {self.order} vertices and {self.size} edges>"
+        sizes = counted(self.order, "vertex", "vertices"), counted(self.size, "edge")
+        return "<Graph of {}, {}>".format(*sizes)
 
 
 def new_networkx(is_multigraph: bool) -> Any:

@@ -17,6 +17,7 @@ from typing import (
 
 from . import graph6
 from .errors import BadGraph
+from .labels import Label, shown
 
 if TYPE_CHECKING:
     from typing import Protocol
@@ -46,7 +47,6 @@ if TYPE_CHECKING:
         def edge_iterator(self, **options: Any) -> Iterable[Tuple[Any, Any, Any]]: ...
 
 
-Label = Hashable
 Edge = Tuple[Any, ...]
 Source = Union[
     str,

@@ -5,12 +5,14 @@ import re
 from typing import Callable, Dict, List, Sequence, Tuple
 
 from ..analysis import Analysis, verdict
-from ..comparisons import Comparison, Replay
+from ..comparisons import Comparison
 from ..decompositions import TreeCheck, refusal
-from ..ear_lists import Ears, EarsCheck
+from ..ear_checks import EarsCheck
+from ..ear_lists import Ears
 from ..errors import BadText
 from ..graphs import Graph
 from ..moves import Moves
+from ..replays import Replay
 from ..texts import spaced
 from ..trees import Decomposition
 from . import moves, stages, structure, trees

@@ -3,9 +3,10 @@ from __future__ import annotations
 
 from typing import Callable, Dict, Sequence, Tuple
 
-from ..comparisons import Comparison, Replay
+from ..comparisons import Comparison
 from ..graphs import GraphLike
 from ..moves import Move, Rotate
+from ..replays import Replay
 from ..trees import TreeLike
 from .places import Place
 from .structure import Given, Wrong, need, verdict

@@ -3,7 +3,8 @@ from __future__ import annotations
 
 from typing import List, Optional, Sequence, Set, Tuple
 
-from ..ear_lists import Ear, Ears, EarsCheck
+from ..ear_checks import EarsCheck
+from ..ear_lists import Ear, Ears
 from ..graphs import GraphLike
 from .places import Simple
 from .structure import Given, Wrong, need, verdict

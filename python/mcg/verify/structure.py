@@ -6,7 +6,7 @@ from typing import Any, FrozenSet, Iterable, List, Optional
 
 from ..analysis import Analysis
 from ..graphs import Graph, GraphLike
-from ..sources import Label
+from ..labels import Label
 from .places import Place, Simple, members
 
 
@@ -58,6 +58,7 @@ def analyse(graph: GraphLike, report: Analysis) -> None:
     given = Given(graph)
     simple = given.simple
     parts = simple.components()
+    need(report.graph == given.graph, "the graph")
     need((report.order, report.size) == (given.graph.order, given.graph.size), "order and size")
     need(report.components == len(parts), "the number of components")
     need(report.bipartite == (simple.side is not None), "bipartite")
