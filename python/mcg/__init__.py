@@ -43,7 +43,8 @@ from .errors import (
     TooLarge,
 )
 from .graphs import Graph
-from .lists import Kind, ListComponent, ListLeaf, elementary, kinds, leaves, select
+from .list_answers import Kind, ListComponent, ListLeaf
+from .lists import elementary, kinds, leaves, select
 from .moves import Moves, Rotate, Switch
 from .replays import Replay, replay
 from .trees import Cut, Decomposition, Leaf

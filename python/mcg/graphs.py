@@ -7,9 +7,9 @@ from collections import Counter
 from typing import Any, Dict, Iterable, List, Sequence, Tuple, Union
 
 from . import graph6, texts
-from .errors import BadGraph, BadText
+from .errors import LIMIT, BadGraph, BadText, TooLarge
 from .graph_texts import read_graph
-from .labels import Label, VertexSet, counted
+from .labels import Label, VertexSet, counted, shown
 from .sources import Edge, Source, edge_key, edge_numbers, parts_of
 
 
@@ -51,15 +51,15 @@ class Graph:
             raise BadGraph(f"labels and keys must be hashable: {why}") from None
         if len(self._numbers) < len(self.vertices):
             twice = next(it for it, count in Counter(self.vertices).items() if count > 1)
-            raise BadGraph(f"the vertex {twice!r} is given twice", kind=texts.SAME_NAME)
+            raise BadGraph(f"the vertex {shown(twice)} is given twice", kind=texts.SAME_NAME)
         self.ends = tuple(self._ends_of(edge) for edge in self.edges)
 
     def _ends_of(self, edge: Edge) -> Tuple[int, int]:
         for it in edge[:2]:
             if it not in self._numbers:
-                raise BadGraph(f"the edge {edge!r}: {it!r} is not a vertex", kind=texts.UNNAMED)
+                raise BadGraph(f"the edge {shown(edge)}: {shown(it)} is not a vertex", kind=texts.UNNAMED)
         if edge[0] == edge[1]:
-            raise BadGraph(f"the edge {edge!r} is a loop", kind=texts.LOOP)
+            raise BadGraph(f"the edge {shown(edge)} is a loop", kind=texts.LOOP)
         return self._numbers[edge[0]], self._numbers[edge[1]]
 
     @property
@@ -77,14 +77,14 @@ class Graph:
         try:
             return self._numbers[label]
         except (KeyError, TypeError):
-            raise BadText(f"{label!r} is not a vertex of the graph") from None
+            raise BadText(f"{shown(label)} is not a vertex of the graph") from None
 
     def edge_number(self, edge: Sequence[Any]) -> int:
         """Returns the number of an edge, from 1; its ends may come in either order."""
         try:
             return self._edge_numbers[edge_key(tuple(edge))]
         except (KeyError, TypeError):
-            raise BadText(f"{edge!r} is not an edge of the graph") from None
+            raise BadText(f"{shown(edge)} is not an edge of the graph") from None
 
     def label(self, number: int) -> Label:
         """Returns the vertex with this number, from 1. Raises `IndexError`."""
@@ -113,7 +113,8 @@ class Graph:
 
     def to_text(self) -> str:
         """Returns the graph file: version 1, or version 2 with the names v1, v2, .. if it is larger
-        than 64 vertices or 512 edges. It has the numbers and not the labels."""
+        than 64 vertices or 512 edges. It has the numbers and not the labels. Raises `TooLarge`."""
+        demand_size(self.order, self.size)
         rows = [f"p mcg {self.order} {self.size}"]
         prefix = ""
         if self.order > 64 or self.size > 512:
@@ -173,6 +174,14 @@ class Graph:
     def __repr__(self) -> str:
         sizes = counted(self.order, "vertex", "vertices"), counted(self.size, "edge")
         return "<Graph of {}, {}>".format(*sizes)
+
+
+def demand_size(order: int, size: int) -> None:
+    """Raises `TooLarge` if the programs do not take a graph of these sizes."""
+    if order > graph6.MOST_VERTICES or size > graph6.MOST_EDGES:
+        sizes = f"{counted(order, 'vertex', 'vertices')} and {counted(size, 'edge')}"
+        most = f"{graph6.MOST_VERTICES} vertices and {graph6.MOST_EDGES:,} edges"
+        raise TooLarge(f"the graph has {sizes}, and {most} are the most", kind=LIMIT)
 
 
 def new_networkx(is_multigraph: bool) -> Any:

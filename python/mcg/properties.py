@@ -2,7 +2,7 @@
 from __future__ import annotations
 
 import re
-from typing import Any, List, Literal, Tuple, Union
+from typing import Any, Literal, Tuple, Union
 
 Order = Literal["first", "last", "balanced"]
 ORDERS = ("first", "last", "balanced")
@@ -42,10 +42,3 @@ def property_word(what: Any) -> str:
         return word
     allowed = f"{', '.join(PROPERTIES)}, bricks=K or braces=K with a number K"
     raise ValueError(f"what is {allowed}, and not {what!r}")
-
-
-def skipped_list(skipped: Any) -> Any:
-    """Returns the list for bad graphs, or None. Raises `TypeError` for anything else."""
-    if skipped is not None and not isinstance(skipped, List):
-        raise TypeError(f"skipped is a list, to which an exception for each bad graph is appended, and not {skipped!r}")
-    return skipped
