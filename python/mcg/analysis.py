@@ -4,7 +4,7 @@ from __future__ import annotations
 from dataclasses import dataclass
 from typing import Any, Dict, FrozenSet, List, Mapping, Optional, Tuple
 
-from . import dicts
+from . import dicts, report_texts
 from .errors import NotCovered
 from .graphs import Graph, GraphLike
 from .labels import Label, counted
@@ -82,7 +82,7 @@ class Analysis:
     @classmethod
     def from_text(cls, text: str, graph: GraphLike) -> Analysis:
         """Returns the report of `mcg analyse` on the graph, in its labels. Raises `BadText`."""
-        return _understood(text.splitlines(), Graph(graph))
+        return _understood(report_texts.lines_of(text), Graph(graph))
 
     def to_dict(self) -> Dict[str, Any]:
         """Returns the analysis as a dict with the names of its fields, by the rules of
@@ -122,6 +122,10 @@ def analyse(graph: GraphLike) -> Analysis:
     """Returns the structure of a graph with at most 128 vertices and 2,048 edges.
 
     Raises `BadGraph`, `TooLarge` and the exceptions on programs.
+
+    >>> import mcg
+    >>> mcg.analyse("C~").classes
+    [{0}, {1}, {2}, {3}]
     """
     numbered = Graph(graph)
     status, report = run("analyse", ["graph"], {"graph": numbered.to_text()})
@@ -131,7 +135,10 @@ def analyse(graph: GraphLike) -> Analysis:
 
 def _understood(report: List[str], graph: Graph) -> Analysis:
     with understood("analyse"):
-        return _read(report, graph)
+        found = _read(report, graph)
+        rows = report[:-1] if report[-1] == f"graph6 {graph.graph6()}" else report
+        report_texts.demand_begins(report_texts.analyse_lines(found), rows, "name")
+        return found
 
 
 def verdict(line: str, graph: Graph) -> Optional[Tuple[str, Any]]:

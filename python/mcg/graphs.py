@@ -131,8 +131,7 @@ class Graph:
         Its edges are triples (u, v, k), k being the number of the edge; its vertices are 1, 2, ..
         or, in version 2, the names. Raises `BadGraph` or `TooLarge` with the line and the kind.
         """
-        found = re.search(r"(?m)^[ \t\r]*(?!c(?:[ \t\r]|$))[^ \t\r\n]+", text)
-        if found and found[0].strip() != "p" and "\n" not in text.strip():
+        if is_graph6(text):
             order, ends = graph6.decode(text)
             return cls._numbered(range(1, order + 1), ends)
         return cls._numbered(*read_graph(text))
@@ -174,6 +173,12 @@ class Graph:
     def __repr__(self) -> str:
         sizes = counted(self.order, "vertex", "vertices"), counted(self.size, "edge")
         return "<Graph of {}, {}>".format(*sizes)
+
+
+def is_graph6(text: str) -> bool:
+    """Returns whether a text is taken as one in graph6, and not as a graph file."""
+    found = re.search(r"(?m)^[ \t\r]*(?!c(?:[ \t\r]|$))[^ \t\r\n]+", text)
+    return bool(found and found[0].strip() != "p" and "\n" not in text.strip())
 
 
 def demand_size(order: int, size: int) -> None:
