@@ -29,7 +29,17 @@ class Graph:
 
     Attributes: `vertices`, the labels, vertex k of a report being `vertices[k - 1]`; `edges`, the
     edges as they were given, edge k of a report being `edges[k - 1]`; `ends`, the ends of the
-    edges by number. Raises `BadGraph` for anything else.
+    edges by number. Raises `BadGraph` for anything else. Two are equal if they have the same
+    vertices and edges, in any order.
+
+    >>> graph = Graph([("u", "v", "old"), ("u", "v", "new"), ("v", "w")])
+    >>> graph, graph.vertices, graph.ends
+    (<Graph of 3 vertices, 3 edges>, ('u', 'v', 'w'), ((1, 2), (1, 2), (2, 3)))
+    >>> print(graph.to_text(), end="")
+    p mcg 3 3
+    e 1 2
+    e 1 2
+    e 2 3
     """
 
     vertices: Tuple[Label, ...]
@@ -104,7 +114,7 @@ class Graph:
         return VertexSet(self.label(k) for k in sorted(numbers))
 
     def numbers(self, labels: Iterable[Label]) -> List[int]:
-        """Returns the numbers of these vertices, rising."""
+        """Returns the numbers of these vertices, in increasing order."""
         return sorted(self.number(it) for it in labels)
 
     def edge_list(self, numbers: Iterable[int]) -> List[Edge]:

@@ -19,7 +19,12 @@ class Leaf:
     `kind` is `"brick"` or `"brace"`, or None if no program was asked. `blocks` are its vertices,
     in the order of their highest-numbered members. `edges` has, for each set of two adjacent
     blocks, the edges of the given graph between them. A leaf made without arguments stands for
-    one whose blocks are not computed yet, as in a tree for `check`.
+    one whose blocks are not computed yet, as in a tree for `check`. Two leaves are equal if their
+    kinds, blocks and edges are, in any order.
+
+    >>> import mcg
+    >>> mcg.decompose([("u", "a"), ("a", "b"), ("b", "v"), ("v", "u")]).leaves
+    [<brace on 4 blocks, 4 pairs, 4 edges>]
     """
 
     kind: Optional[str] = None

@@ -55,7 +55,11 @@ class Given:
 
 
 def analyse(graph: GraphLike, report: Analysis) -> None:
-    """Checks what `analyse` reports of a graph. Raises `Wrong`."""
+    """Checks what `analyse` reports of a graph. Raises `Wrong`.
+
+    >>> import mcg
+    >>> analyse("C~", mcg.analyse("C~"))
+    """
     given = Given(graph)
     simple = given.simple
     parts = simple.components()
