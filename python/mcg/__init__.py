@@ -11,24 +11,34 @@ variables `MCG` and `MCG6` or else on the PATH, and give their reports in your o
     ['brick']
     >>> [kind.bricks for kind in mcg.kinds(["C~", "IheA@GUAo"])]
     [1, 1]
+    >>> print(mcg.decompose(edges))
+    <Decomposition of 4 vertices: 1 brick, 0 braces>
+    brick on 4 blocks: 'a', 'b', 'c', 'd'
 
 A graph is a graph of NetworkX or of Sage, a pair (vertices, edges), an iterable of edges, or a
 text in graph6 (see `Graph`), with at most 128 vertices and 2,048 edges.
 
 One graph: `analyse`, `decompose`, `check`, `ears`, `check_ears`, `compare`, `script`, `replay`.
-Lists of graphs, streamed through one process: `kinds`, `leaves`, `elementary`,
-`select`.
+Lists of graphs, streamed: `kinds`, `leaves`, `elementary`, `select`.
+Each answer has a short `repr`, a text for `print`, and `to_dict` with `from_dict` (see `mcg.dicts`);
+it can be pickled.
 Texts of the formats of Mcg: the methods `from_text` and `to_text` of `Graph`, `Decomposition`,
 `Picks`, `Ears` and `Moves`, and `from_text` of `Analysis`, `TreeCheck`, `EarsCheck`, `Comparison`
 and `Replay`.
+
+Vertices and edges are in your own labels everywhere. Where something has a number, it counts from
+1, as in the reports and files: vertex k is `Graph(G).vertices[k - 1]`, edge k is
+`Graph(G).edges[k - 1]`, and so are nodes, steps and moves. Places in a list of Python count from 0:
+`index`, and the leaves in `Comparison.pairs`. The labels of a graph in graph6 are 0, 1, ..
 
 The package decides nothing about graphs; what is decided is decided by the programs. The one
 exception is `mcg.verify`, a second opinion that checks reports without them.
 """
 from .analysis import Analysis, analyse
-from .comparisons import Comparison, Replay, compare, replay, script
+from .comparisons import Comparison, compare, script
 from .decompositions import Picks, Refusal, TreeCheck, check, decompose
-from .ear_lists import Ear, Ears, EarsCheck, check_ears, ears
+from .ear_checks import EarsCheck, check_ears
+from .ear_lists import Ear, Ears, ears
 from .errors import (
     BadGraph,
     BadInput,
@@ -42,9 +52,15 @@ from .errors import (
     TooLarge,
 )
 from .graphs import Graph
-from .lists import Kind, ListComponent, ListLeaf, elementary, kinds, leaves, select
+from .list_answers import Kind, ListComponent, ListLeaf
+from .lists import elementary, kinds, leaves, select
 from .moves import Moves, Rotate, Switch
+from .properties import Order, Property
+from .replays import Replay, replay
 from .trees import Cut, Decomposition, Leaf
+from .version import __version__
+
+from . import verify  # (last, as it is made of the rest)
 
 __all__ = [
     "Analysis",
@@ -66,16 +82,19 @@ __all__ = [
     "Moves",
     "NotADerivation",
     "NotCovered",
+    "Order",
     "OutOfMemory",
     "Picks",
     "ProgramFailed",
     "ProgramMissing",
+    "Property",
     "Refusal",
     "Replay",
     "Rotate",
     "Switch",
     "TooLarge",
     "TreeCheck",
+    "__version__",
     "analyse",
     "check",
     "check_ears",
@@ -88,4 +107,5 @@ __all__ = [
     "replay",
     "script",
     "select",
+    "verify",
 ]
