@@ -140,7 +140,7 @@ def draw_graph(
         if grown is not None:
             draw_frame(scene, *grown)
             return grown[0]
-        look, key = _inside(graph, look)
+        look, key = inside(graph, look)
         frame = frame_of(graph, places, look)
         frame.key = key
     else:
@@ -150,8 +150,8 @@ def draw_graph(
     return draw_frame(scene, frame, look)
 
 
-def _inside(graph: PlainGraph, look: Look) -> Tuple[Look, Key]:
-    """The look with short names inside, and the key of these."""
+def inside(graph: PlainGraph, look: Look) -> Tuple[Look, Key]:
+    """Returns the look with short names inside, and the key of these."""
     short, key = short_names(graph.names)
     texts: Dict[int, Words] = {**dict(enumerate(short)), **look.texts}
     titles = {v: name for v, name in enumerate(graph.names) if short[v] != name}
@@ -208,11 +208,11 @@ def draw_frame(
 ) -> Frame:
     """Adds a graph whose frame is known."""
     _draw_edges(scene, frame, look)
-    inside = _draw_vertices(scene, frame, look)
-    if inside and frame.names == "inside":
+    within = _draw_vertices(scene, frame, look)
+    if within and frame.names == "inside":
         # (a text lets the pointer through, so that the words of a square are found under its name)
         scene.open("names", size=frame.letters)
-        for at, words, size, ink in inside:
+        for at, words, size, ink in within:
             scene.text(*at, words, size, fill=ink)
         scene.close()
     for v, at in sorted((beside or {}).items()):
@@ -250,7 +250,7 @@ Inside = Tuple[Point, Words, float, str]
 
 def _draw_vertices(scene: Scene, frame: Frame, look: Look) -> List[Inside]:
     """The vertices; returns their names with the place, the size and the colour inside them."""
-    inside: List[Inside] = []
+    within: List[Inside] = []
     scene.open("vertices")
     for v, (x, y) in enumerate(frame.points):
         mark = look.marks.get(v, style.PLAIN)
@@ -267,9 +267,9 @@ def _draw_vertices(scene: Scene, frame: Frame, look: Look) -> List[Inside]:
         words = _text(frame, look, v)
         if words:
             at = (x, y + (0.1 * radius if mark.shape == "triangle" else 0.0))
-            inside.append((at, words, _size_inside(words, radius, frame.letters), mark.ink))
+            within.append((at, words, _size_inside(words, radius, frame.letters), mark.ink))
     scene.close()
-    return inside
+    return within
 
 
 def _size_inside(words: Words, radius: float, letters: float) -> float:

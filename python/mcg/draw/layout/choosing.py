@@ -9,7 +9,7 @@ import numpy as np
 
 from ..plain import PlainGraph
 from .arrays import TINY, Array, Pairs, centred, ends_of, turned_by
-from .measures import cost, crossings, hull, lengths, scaled, symmetries, vertex_edge
+from .measures import cost, crossings, evened, hull, lengths, scaled, symmetries, vertex_edge
 from .plane import plane_drawings
 from .relaxing import distances, majorize
 from .starts import circles, rows, tangled
@@ -45,7 +45,8 @@ def place(graph: PlainGraph, shores: Shores = ()) -> Array:
         if near is not None:
             return near
     options = [scaled(p, graph.pairs) for p in plane or tangled(graph, shores)]
-    return centred(upright(_best(graph, options, shores, bool(plane)), graph.pairs))
+    best = evened(_best(graph, options, shores, bool(plane)), graph.pairs)
+    return centred(upright(best, graph.pairs))
 
 
 def _best(graph: PlainGraph, options: List[Array], shores: Shores, is_planar: bool) -> Array:
@@ -97,7 +98,7 @@ def _near_a_symmetric_one(graph: PlainGraph) -> Optional[Array]:
     if not 0 < sum(excess) <= 2 * _CHORDS or graph.order > 24:
         return None
     many = [pair for pair in graph.pairs if excess[pair[0]] and excess[pair[1]]]
-    found: List[Tuple[int, Array]] = []
+    found: List[Tuple[int, int, Array]] = []
     for chords in itertools.combinations(many, sum(excess) // 2):
         left = list(excess)
         for end in itertools.chain(*chords):
@@ -107,9 +108,10 @@ def _near_a_symmetric_one(graph: PlainGraph) -> Optional[Array]:
         rest = PlainGraph(graph.names, [it for it in graph.pairs if it not in chords])
         if len(rest.components()) == 1 and len(set(refined(rest))) == 1 and turns_and_mirrors(rest)[0]:
             p = place(rest)
-            if symmetries(p, rest.pairs)[0] >= 3 and _keeps_off(p, graph.pairs):
-                found.append((crossings(p, graph.pairs), p))
-    return min(found, key=lambda it: it[0])[1] if found else None
+            turns, mirrors = symmetries(p, rest.pairs)
+            if turns >= 3 and _keeps_off(p, graph.pairs):
+                found.append((-turns - len(mirrors), crossings(p, graph.pairs), p))
+    return min(found, key=lambda it: it[:2])[2] if found else None
 
 
 def _keeps_off(p: Array, pairs: Pairs) -> bool:

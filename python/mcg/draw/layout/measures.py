@@ -2,7 +2,7 @@
 from __future__ import annotations
 
 import math
-from typing import Dict, Iterable, List, Sequence, Tuple
+from typing import Dict, Iterable, List, Optional, Sequence, Tuple
 
 import numpy as np
 
@@ -93,25 +93,46 @@ def least_angle(p: Array, pairs: Pairs) -> float:
 def symmetries(p: Array, pairs: Pairs) -> Tuple[int, List[float]]:
     """Returns the order of the rotations and the mirror axes (angles) that map the drawing to
     itself."""
+    order, _, axes = symmetric_images(p, pairs)
+    return order, [angle for angle, _ in axes]
+
+
+Images = Tuple[int, Integers, List[Tuple[float, Integers]]]
+
+
+def symmetric_images(p: Array, pairs: Pairs) -> Images:
+    """Returns the order of the rotations of a drawing and the images of the vertices under the
+    first of them, and the angle of each mirror axis with the images."""
     q = p - p.mean(0)
     size = float(np.abs(q).max()) or 1.0
     edges = _adjacency(len(p), pairs)
     far = int(np.hypot(q[:, 0], q[:, 1]).argmax())
-    order = 1
+    order, images = 1, np.arange(len(p))
     for k in range(min(len(p), 20), 1, -1):
-        t = 2 * math.pi / k
-        turn = np.array([[math.cos(t), -math.sin(t)], [math.sin(t), math.cos(t)]])
-        if _maps(q, turn, size, edges, far):
-            order = k
+        found = _image(q, turn_of(2 * math.pi / k), size, edges, far)
+        if found is not None:
+            order, images = k, found
             break
     axes = []
     radius = np.hypot(q[:, 0], q[:, 1])
-    for k in np.flatnonzero(np.abs(radius - radius[far]) <= _TOLERANCE * size):
-        t = (math.atan2(q[far, 1], q[far, 0]) + math.atan2(q[k, 1], q[k, 0])) / 2
-        c, s = math.cos(2 * t), math.sin(2 * t)
-        if _maps(q, np.array([[c, s], [s, -c]]), size, edges, int(k)):
-            axes.append(t % math.pi)
-    return order, axes
+    for v in np.flatnonzero(np.abs(radius - radius[far]) <= _TOLERANCE * size).tolist():
+        angle = (math.atan2(q[far, 1], q[far, 0]) + math.atan2(q[v, 1], q[v, 0])) / 2
+        found = _image(q, mirror_of(angle), size, edges, v)
+        if found is not None:
+            axes.append((angle % math.pi, found))
+    return order, images, axes
+
+
+def turn_of(angle: float) -> Array:
+    """Returns the matrix of a rotation."""
+    c, s = math.cos(angle), math.sin(angle)
+    return np.array([[c, -s], [s, c]])
+
+
+def mirror_of(angle: float) -> Array:
+    """Returns the matrix of the mirror with an axis at this angle."""
+    c, s = math.cos(2 * angle), math.sin(2 * angle)
+    return np.array([[c, s], [s, -c]])
 
 
 def _adjacency(n: int, pairs: Pairs) -> Tuple[Integers, Flags]:
@@ -120,18 +141,38 @@ def _adjacency(n: int, pairs: Pairs) -> Tuple[Integers, Flags]:
     return e, near
 
 
-def _maps(q: Array, turn: Array, size: float, edges: Tuple[Integers, Flags], probe: int) -> bool:
-    """Whether a turn or a mirror maps a drawing to itself; `probe` is tried first."""
+def _image(
+    q: Array, turn: Array, size: float, edges: Tuple[Integers, Flags], probe: int
+) -> Optional[Integers]:
+    """The images of the vertices if a turn or a mirror maps a drawing to itself; `probe` is tried
+    first."""
     image = q @ turn.T
     for v in (probe, 0, len(q) // 2):
         if np.hypot(q[:, 0] - image[v, 0], q[:, 1] - image[v, 1]).min() > _TOLERANCE * size:
-            return False
+            return None
     d = np.hypot(image[:, None, 0] - q[None, :, 0], image[:, None, 1] - q[None, :, 1])
-    to = d.argmin(1)
+    to: Integers = d.argmin(1)
     if d[np.arange(len(q)), to].max() > _TOLERANCE * size or len(np.unique(to)) < len(q):
-        return False
+        return None
     e, near = edges
-    return bool(near[to[e[:, 0]], to[e[:, 1]]].all())
+    return to if near[to[e[:, 0]], to[e[:, 1]]].all() else None
+
+
+def evened(p: Array, pairs: Pairs) -> Array:
+    """Returns a drawing that is symmetric up to small errors without these: each vertex is moved to
+    the mean of where the rotations and a mirror bring its images."""
+    order, images, axes = symmetric_images(p, pairs)
+    q: Array = p - p.mean(0)
+    if order > 1:
+        total, at = q.copy(), images
+        for k in range(1, order):
+            total = total + q[at] @ turn_of(-2 * math.pi * k / order).T
+            at = images[at]
+        q = total / order
+    if axes:
+        angle, images = min(axes, key=lambda it: round(it[0], 6))
+        q = (q + q[images] @ mirror_of(angle).T) / 2
+    return q if crossings(q, pairs) <= crossings(p, pairs) else p
 
 
 def resolution(p: Array, pairs: Pairs) -> float:

@@ -13,24 +13,30 @@ from .relaxing import distances, majorize, relax_all
 from .symmetry import coprime, mirrored, one_circle, rings, snapped, turns_and_mirrors
 
 _SEEDS = 4  # random radii tried for each rotation and each mirror
-_CLOSER = 24  # drawings that get a closer look
+_CLOSER = 32  # symmetric drawings that get a closer look
 
 
 def tangled(graph: PlainGraph, shores: Sequence[Iterable[int]]) -> List[Array]:
     """Returns drawings of a graph that is not planar, the better ones also relaxed."""
     n, pairs = graph.order, graph.pairs
     d = distances(graph)
-    options = symmetric(graph, d)
+    others: List[Array] = []
     for far in [d, _kept_together(d, shores)] if shores else [d]:
-        options += majorized(_random(n), far, 120)
-        options += majorized([circles(graph, d)], far, 30)
+        others += majorized(_random(n), far, 120)
+        others += majorized([circles(graph, d)], far, 30)
     if len(pairs) > 3 * n:
-        options.append(round_table(graph))
-    listed = [scaled(p, pairs) for p in options if np.isfinite(p).all()]
-    listed.sort(key=lambda p: round(quick_cost(p, pairs), 6))
-    listed = sorted(listed[:_CLOSER], key=lambda p: round(cost(p, pairs, shores), 6))
+        others.append(round_table(graph))
+    listed = _promising(symmetric(graph, d), pairs, _CLOSER) + _promising(others, pairs, 10)
+    listed.sort(key=lambda p: round(cost(p, pairs, shores), 6))
     listed = listed[: 5 if n <= 40 else 3]
     return listed + relax_all(listed, pairs, 120, [1.1] * len(listed))
+
+
+def _promising(drawings: List[Array], pairs: Pairs, count: int) -> List[Array]:
+    """The drawings that look best at a glance."""
+    listed = [scaled(p, pairs) for p in drawings if np.isfinite(p).all()]
+    listed.sort(key=lambda p: round(quick_cost(p, pairs), 6))
+    return listed[:count]
 
 
 def _kept_together(d: Array, shores: Sequence[Iterable[int]]) -> Array:
@@ -67,7 +73,7 @@ def symmetric(graph: PlainGraph, d: Array) -> List[Array]:
                     found.append(one_circle(n, pairs, turned, k))
             for step in coprime(k)[:3]:
                 starts += [rings(n, walks, k, step, seed) for seed in range(_SEEDS)]
-        for p in _distinct(majorized(starts, d, 120), pairs):
+        for p in _promising(_distinct(majorized(starts, d, 120), pairs), pairs, 8):
             found += [p, *snapped(p, k)]
     some = mirrors[:2] + mirrors[-2:] if len(mirrors) > 4 else mirrors
     starts = [mirrored(n, walks, seed) for walks in some for seed in range(_SEEDS)]
