@@ -125,12 +125,17 @@ def _need(graph: PlainGraph, places: Sequence[Point], radius: float) -> float:
 
 
 def draw_graph(
-    scene: Scene, graph: PlainGraph, places: Sequence[Point], look: Optional[Look] = None
+    scene: Scene,
+    graph: PlainGraph,
+    places: Sequence[Point],
+    look: Optional[Look] = None,
+    prefix: str = "",
 ) -> Frame:
     """Adds the graph to the scene: edges, then vertices, then names. Returns where everything is.
 
     With names `"auto"` they stand beside the vertices, and the drawing grows until all of them
     have a place; if it would be too wide, they go inside, shortened, and the key tells the rest.
+    `prefix` tells the vertices of several graphs of one scene apart.
     """
     look = look or Look()
     if look.names == "auto":
@@ -138,16 +143,16 @@ def draw_graph(
     if look.names == "auto":
         grown = _grown(graph, places, look)
         if grown is not None:
-            draw_frame(scene, *grown)
-            return grown[0]
+            grown[0].prefix = prefix
+            return draw_frame(scene, *grown)
         look, key = inside(graph, look)
         frame = frame_of(graph, places, look)
         frame.key = key
     else:
         frame = frame_of(graph, places, look)
-        if frame.names == "beside":
-            return draw_frame(scene, frame, look, _beside(frame, look))
-    return draw_frame(scene, frame, look)
+    frame.prefix = prefix
+    beside = _beside(frame, look) if frame.names == "beside" else None
+    return draw_frame(scene, frame, look, beside)
 
 
 def inside(graph: PlainGraph, look: Look) -> Tuple[Look, Key]:

@@ -13,23 +13,13 @@ from .curves import around, segment_distance, through
 from .geometry import Box, Segment, box_distance, overlap, segments, touches
 from .graph_scene import Frame
 from .layout.arrays import Array
+from .nodes import barred, cut_name
 from .scene import Pen, Run, Runs, Scene, words_width
 from .style import Point
 
 BLUE = Pen(stroke=style.BLUE, width=style.CUT, dash=style.DASH)
 RUST = Pen(stroke=style.RUST, width=style.CUT, dash=style.SECOND_DASH)
 NAME_SIZE = 12.0
-
-
-def cut_name(k: int, total: int, letter: str = "X") -> Runs:
-    """Returns the name of the k-th cut, from 0: X, or X with a number where there are several."""
-    name = [Run(letter, italic=True)]
-    return name + [Run(str(k + 1), sub=True)] if total > 1 else name
-
-
-def barred(runs: Runs) -> Runs:
-    """Returns the name of the complement of a set: the bar is put on, or taken off."""
-    return [run._replace(over=not run.over) if run.italic else run for run in runs]
 
 
 def shade(scene: Scene, frame: Frame, parts: Sequence[Sequence[int]]) -> None:
