@@ -48,20 +48,40 @@ def _nearby(points: Sequence[Point], a: int, b: int) -> List[Point]:
 
 
 def _bundle(p: Point, q: Point, count: int, foreign: List[Point], radius: float) -> List[Steps]:
-    """The arcs of some parallel edges, as near to the straight line as the others allow."""
+    """The arcs of some parallel edges, as near to the straight line as the others allow. No vertex
+    comes to lie between the straight line and an arc, so that bending makes no crossing."""
     long = math.hypot(q[0] - p[0], q[1] - p[1])
     gap = min(style.ARC_GAP, 0.22 * long, 2.4 * radius / max(1, count - 1) + 3)
+    beside = [_beside(it, p, q, long) for it in foreign]
     best, most = [], -math.inf
     for shift in _SHIFTS:
-        if abs(shift) > 0.35 * long:
+        offs = [(k - (count - 1) / 2) * gap + shift for k in range(count)]
+        if best and (abs(shift) > 0.35 * long or any(_passes(off, beside) for off in offs)):
             continue
-        arcs = [arc(p, q, (k - (count - 1) / 2) * gap + shift) for k in range(count)]
+        arcs = [arc(p, q, off) for off in offs]
         free = min(room(foreign, flat(it)) for it in arcs) if foreign else math.inf
         if free > most + 0.5 or not best:
             best, most = arcs, free
         if free >= radius + 2.5:
             break
     return best
+
+
+def _beside(point: Point, p: Point, q: Point, long: float) -> Tuple[float, float]:
+    """How far along the line from p to q a point is, from 0 to 1, and how far off it."""
+    dx, dy = (q[0] - p[0]) / max(long, 1e-6), (q[1] - p[1]) / max(long, 1e-6)
+    x, y = point[0] - p[0], point[1] - p[1]
+    return (x * dx + y * dy) / max(long, 1e-6), y * dx - x * dy
+
+
+def _passes(off: float, beside: List[Tuple[float, float]]) -> bool:
+    """Whether an arc that is that far off at its middle has a point between it and the line."""
+    for along, away in beside:
+        if 0 < along < 1:
+            reach = off * 4 * along * (1 - along)
+            if 1e-9 < away < reach or reach < away < -1e-9:
+                return True
+    return False
 
 
 def arc(p: Point, q: Point, off: float) -> Steps:

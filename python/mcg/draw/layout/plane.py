@@ -14,8 +14,9 @@ from .arrays import TINY, Array, Pairs, ends_of
 from .measures import crossings, lengths, resolution, strangers
 from .relaxing import relax_all
 
-_EMBEDDINGS = 5  # tried of a graph with several
-_OUTER_FACES = 14  # tried of each embedding
+_SEEDS = 24  # by which different embeddings are looked for
+_EMBEDDINGS = 4  # tried of a graph with several
+_OUTER_FACES = 12  # tried of each embedding
 _ROUNDS, _FEW_ROUNDS = 24, 8
 
 Face = List[int]
@@ -72,15 +73,10 @@ def plane_drawings(
         return []
     is_firm = is_three_connected(graph)
     tried: Dict[float, Array] = {}
-    known = set()
-    for seed in range(1 if is_firm else _EMBEDDINGS):
-        plane = embedding(graph, seed) if seed else first
-        faces = frozenset(map(frozenset, faces_of(plane)))
-        if faces not in known:
-            known.add(faces)
-            for outer, drawn in _of_embedding(graph, plane, is_firm):
-                rank = _unevenness(drawn, graph.pairs) + 2.0 * strangers(drawn, shores)
-                tried.setdefault(round(rank - (0.0 if is_firm else 0.6 * outer), 3), drawn)
+    for plane in [first] if is_firm else _embeddings(graph, first):
+        for outer, drawn in _of_embedding(graph, plane, is_firm):
+            rank = _unevenness(drawn, graph.pairs) + 2.0 * strangers(drawn, shores)
+            tried.setdefault(round(rank - (0.0 if is_firm else 0.6 * outer), 3), drawn)
     found = [opened(tried[rank], graph.pairs) for rank in sorted(tried)[:most]]
     if not is_firm:
         reaches = [1.1, 2.0]
@@ -90,6 +86,19 @@ def plane_drawings(
         # a large triangulation: its outer triangle leaves too little room in the middle
         found += relax_all(found[:2], graph.pairs, 400, [1.6, 1.6][: len(found)])
     return found
+
+
+def _embeddings(graph: PlainGraph, first: Any) -> List[Any]:
+    """Different embeddings, those with the longest faces first: these leave the most room."""
+    found: Dict[object, Any] = {frozenset(map(frozenset, faces_of(first))): first}
+    for seed in range(1, _SEEDS if graph.order <= 30 else _SEEDS // 2):
+        plane = embedding(graph, seed)
+        found.setdefault(frozenset(map(frozenset, faces_of(plane))), plane)
+
+    def sizes(faces: Any) -> List[int]:
+        return sorted((-len(face) for face in faces))
+
+    return [found[faces] for faces in sorted(found, key=sizes)[:_EMBEDDINGS]]
 
 
 def _of_embedding(graph: PlainGraph, plane: Any, is_firm: bool) -> List[Tuple[int, Array]]:
@@ -107,7 +116,9 @@ def _of_embedding(graph: PlainGraph, plane: Any, is_firm: bool) -> List[Tuple[in
     trials.sort(key=lambda face: (-len(face), sorted(face)))
     edges = sorted({(min(e), max(e)) for e in filled.edges()})
     found = []
-    for outer in _one_of_each_kind(graph, trials)[:_OUTER_FACES]:
+    if is_firm:
+        trials = _one_of_each_kind(graph, trials)
+    for outer in trials[:_OUTER_FACES]:
         inner = [face for face in faces if face is not outer]
         found.append((len(outer), _with_outer(graph, edges, inner, outer, is_firm)))
     return found
