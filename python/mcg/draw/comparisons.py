@@ -1,0 +1,228 @@
+"""`Comparison.draw()`: two trees, matched leaves alike, and all moves from one to the other."""
+from __future__ import annotations
+
+from typing import Any, Dict, List, Mapping, NamedTuple, Optional, Sequence, Tuple
+
+from ..comparisons import Comparison, compare, replay
+from ..graphs import Graph
+from ..moves import Move, Moves, Rotate, Switch
+from ..trees import Decomposition
+from . import style
+from .graphs import Positions, named, places_of
+from .needs import laid_out
+from .nodes import Names, Node, PlainTree, Set, names_of, tree_of
+from .picture import Picture, finished
+from .plain import PlainGraph, name_of
+from .scene import Pen, Run, Runs, Scene, words_width
+from .style import Point
+
+MOST_MOVES = 40  # that are drawn
+_ARROW = Pen(stroke=style.RUST, width=1.6)
+_BETWEEN = 64.0  # the two trees
+_WIDEST = 760.0  # of a row of the strip
+
+
+class Stage(NamedTuple):
+    """A tree between moves: the tree, and for each leaf the place of its partner in the first."""
+
+    tree: PlainTree
+    order: List[int]
+
+
+def stages_of(comparison: Comparison, plain: PlainGraph) -> List[Stage]:
+    """Returns the trees from the first to the second, the programs having made each move and paired
+    the leaves of each two neighbours; at most `MOST_MOVES` moves."""
+    graph = comparison.first.graph
+    found = [Stage(tree_of(comparison.first, plain), list(range(len(comparison.first.leaves))))]
+    here = comparison.first
+    for move in comparison.moves[:MOST_MOVES]:
+        after = made(graph, here, move)
+        order = [0] * len(after.leaves)
+        for leaf, partner, _ in compare(graph, here, after).pairs:
+            order[partner] = found[-1].order[leaf]
+        found.append(Stage(tree_of(with_kinds(after, comparison, order), plain), order))
+        here = after
+    return found
+
+
+def made(graph: Graph, tree: Decomposition, move: Move) -> Decomposition:
+    """Returns what a move makes of a tree, by the program. Raises `ValueError` if it fails."""
+    result = replay(graph, tree, Moves([move])).result
+    if result is None:
+        raise ValueError(f"the move {move} cannot be made")
+    return result
+
+
+def with_kinds(
+    tree: Decomposition, comparison: Comparison, order: Sequence[int]
+) -> Decomposition:
+    """Returns a tree whose leaves have the kinds of their partners, as far as these are known."""
+    kinds = [comparison.first.leaves[k].kind for k in order]
+    if any(kind is None for kind in kinds):
+        return tree
+    return Decomposition(tree.graph, tree.tree, [str(kind) for kind in kinds])
+
+
+def node_at(tree: PlainTree, path: str) -> Node:
+    """Returns the node at the end of a path of letters k and m."""
+    node = tree.root
+    for step in path:
+        node = node.below["km".index(step)]
+    return node
+
+
+def upper_path(move: Move) -> str:
+    """Returns the path to the node that a move changes."""
+    return move.path[:-1] if isinstance(move, Rotate) else move.path
+
+
+def shore_of(node: Node) -> Set:
+    """Returns the shore of a cut."""
+    assert node.shore is not None
+    return node.shore
+
+
+def told(move: Move, before: PlainTree, names: Names) -> Tuple[Runs, Runs]:
+    """Returns a move in words: what it is, and what it does."""
+    if isinstance(move, Switch):
+        words = f": {_listed(before, move.leaves)} leaves, {_listed(before, move.joins)} joins"
+        return [Run("Switch", bold=True)], [*names[shore_of(node_at(before, move.path))], Run(words)]
+    upper, lower = node_at(before, upper_path(move)), node_at(before, move.path)
+    words_of = [*names[shore_of(lower)], Run(" goes above "), *names[shore_of(upper)]]
+    return [Run("Rotate", bold=True)], words_of
+
+
+def _listed(tree: PlainTree, labels: Any) -> str:
+    return ", ".join(sorted(map(name_of, labels), key=lambda it: (len(it), it)))
+
+
+def moving(stages: Sequence[Stage], moves: Sequence[Move], at: int) -> List[Set]:
+    """Returns the shores that change at a stage: those that the next move changes and those that
+    the last one has changed."""
+    found = []
+    if at < len(moves) and at + 1 < len(stages):
+        found.append(shore_of(node_at(stages[at].tree, moves[at].path)))
+    if at:
+        found.append(shore_of(node_at(stages[at].tree, upper_path(moves[at - 1]))))
+    return found
+
+
+def strip(stages: Sequence[Stage], moves: Sequence[Move], names: Names) -> Scene:
+    """Returns all trees in outline from left to right, with an arrow and its words for each move; a
+    long list goes on in the next row."""
+    outlines: Any = laid_out("outlines")
+    marks: Any = laid_out("tree_pictures").leaf_marks
+    scene, x, y, deep = Scene(), 0.0, 0.0, 0.0
+    for at, stage in enumerate(stages):
+        hot = moving(stages, moves, at)
+        it = outlines.outline(stage.tree, names, marks(len(stage.order), stage.order), hot)
+        deep = max(deep, it.box[3])
+        scene.open("state", at=at)
+        scene.put(it, x - it.box[0], y)
+        scene.close()
+        x += it.wide
+        if at + 1 < len(stages):
+            head, words = told(moves[at], stage.tree, names)
+            wide = max(words_width(words, 10) + 16, 90.0)
+            if x + wide + 30 + it.wide > _WIDEST:
+                x, y, deep = 0.0, y + deep + 40, 0.0
+            arrow(scene, (x + 8, y + 18), (x + 8 + wide, y + 18))
+            scene.text(x + 8 + wide / 2, y + 8, head, 10.5, fill=style.RUST)
+            scene.text(x + 8 + wide / 2, y + 31, words, 10)
+            x += wide + 16
+    if len(moves) >= len(stages):
+        scene.text(x + 14, y + 18, f".. {len(moves) + 1 - len(stages)} more", 10, anchor="start")
+    return scene
+
+
+def arrow(scene: Scene, a: Point, b: Point) -> None:
+    """Adds an arrow that leads to the right."""
+    scene.line(a, (b[0] - 6, b[1]), _ARROW)
+    head = [b, (b[0] - 9, b[1] - 3.6), (b[0] - 9, b[1] + 3.6)]
+    scene.polygon(head, Pen(style.RUST, None, 0))
+
+
+def draw_comparison(
+    comparison: Comparison,
+    *,
+    pos: Optional[Positions] = None,
+    labels: Optional[Mapping[Any, object]] = None,
+    title: str = "",
+    ax: Optional[Any] = None,
+) -> Picture:
+    """Returns the picture of a comparison: both trees, a leaf and its partner with the same letter,
+    tint and drawing; below them all trees between in outline, and an arrow for each move (at most
+    40). Shores of one tree alone are rust, those of both are blue.
+
+    `pos`, `labels` and `ax` as for `draw`. Raises `ImportError` without NumPy and NetworkX, and the
+    exceptions on programs, which make the moves one by one.
+    """
+    graph = comparison.first.graph
+    plain = named(graph, labels)
+    stages = stages_of(comparison, plain)
+    first, second = stages[0].tree, tree_of(comparison.second, plain)
+    order = [0] * len(comparison.pairs)
+    for leaf, partner, _ in comparison.pairs:
+        order[partner] = leaf
+    if len(stages) == len(comparison.moves) + 1:
+        stages[-1] = Stage(stages[-1].tree, order)
+    listed = [shore for tree in (first, second) for shore in tree.shores()]
+    listed += [shore for stage in stages for shore in stage.tree.shores()]
+    names = names_of(listed, plain.order)
+    places = places_of(graph, plain, pos, first.shores() + second.shores())
+    scene = both_trees(comparison, first, second, order, names, places)
+    row = strip(stages, comparison.moves, names) if comparison.moves else None
+    if row is not None:
+        low, wide = scene.box[3] + 16, scene.wide
+        scene.line((scene.box[0], low), (scene.box[2], low), Pen(stroke=style.RULE, width=0.6))
+        middle = scene.box[0] + (wide - row.wide) / 2
+        scene.put(row, middle - row.box[0], low + 26 - row.box[1])
+    count = len(comparison.moves)
+    words = title or f"Two decompositions and {count} move{'' if count == 1 else 's'}"
+    return finished(scene, words, "", ax)
+
+
+def both_trees(
+    comparison: Comparison,
+    first: PlainTree,
+    second: PlainTree,
+    order: Sequence[int],
+    names: Names,
+    places: List[Point],
+) -> Scene:
+    """Returns the two trees side by side, with the sets that their names stand for."""
+    pictures: Any = laid_out("tree_pictures")
+    laid_out("tree_places").arrange(first, places)
+    _share_places(comparison, first, second)
+    laid_out("tree_places").arrange(second, places)
+    odd = set(first.shores()) ^ set(second.shores())
+    shared = laid_out("panels").TreeStyle(first.whole, names, odd)
+    one = pictures.draw_tree(first, shared, pictures.leaf_marks(len(first.leaves)), "a")
+    other = pictures.draw_tree(second, shared, pictures.leaf_marks(len(order), order), "b")
+    scene = Scene()
+    top = max(it.root[1] - it.scene.box[1] for it in (one, other))
+    x = 0.0
+    for it in (one, other):
+        scene.put(it.scene, x - it.scene.box[0], top - it.root[1])
+        x += it.scene.wide + _BETWEEN
+    shores = sorted(set(first.shores() + second.shores()), key=lambda s: _number(names[s]))
+    pictures.add_sets(scene, pictures.smaller_sets(shores, first.whole.order, names), shared.short)
+    pictures.add_names(scene, shared.key)
+    return scene
+
+
+def _number(name: Runs) -> int:
+    return int(name[1].text) if len(name) > 1 else 0
+
+
+def _share_places(comparison: Comparison, first: PlainTree, second: PlainTree) -> None:
+    """Gives each leaf of the second tree the places of its partner, block by block."""
+    graph = comparison.first.graph
+    for leaf, partner, image in comparison.pairs:
+        images: Dict[Set, Set] = {
+            frozenset(v - 1 for v in graph.numbers(b)): frozenset(v - 1 for v in graph.numbers(a))
+            for a, b in image.items()
+        }
+        one, other = first.leaves[leaf], second.leaves[partner]
+        place = dict(zip(one.blocks, one.places))
+        other.places = [place[images[block]] for block in other.blocks]
