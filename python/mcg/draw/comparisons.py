@@ -1,66 +1,23 @@
 """`Comparison.draw()`: two trees, matched leaves alike, and all moves from one to the other."""
 from __future__ import annotations
 
-from typing import Any, Dict, List, Mapping, NamedTuple, Optional, Sequence, Tuple
+from typing import Any, Dict, List, Mapping, Optional, Sequence, Tuple
 
-from ..comparisons import Comparison, compare, replay
-from ..graphs import Graph
-from ..moves import Move, Moves, Rotate, Switch
-from ..trees import Decomposition
+from ..comparisons import Comparison
+from ..moves import Move, Rotate, Switch
 from . import style
 from .graphs import Positions, named, places_of
 from .needs import laid_out
 from .nodes import Names, Node, PlainTree, Set, names_of, tree_of
 from .picture import Picture, finished
-from .plain import PlainGraph, name_of
+from .plain import name_of
 from .scene import Pen, Run, Runs, Scene, words_width
+from .stages import Stage, partners, stages_of
 from .style import Point
 
-MOST_MOVES = 40  # that are drawn
 _ARROW = Pen(stroke=style.RUST, width=1.6)
 _BETWEEN = 64.0  # the two trees
 _WIDEST = 760.0  # of a row of the strip
-
-
-class Stage(NamedTuple):
-    """A tree between moves: the tree, and for each leaf the place of its partner in the first."""
-
-    tree: PlainTree
-    order: List[int]
-
-
-def stages_of(comparison: Comparison, plain: PlainGraph) -> List[Stage]:
-    """Returns the trees from the first to the second, the programs having made each move and paired
-    the leaves of each two neighbours; at most `MOST_MOVES` moves."""
-    graph = comparison.first.graph
-    found = [Stage(tree_of(comparison.first, plain), list(range(len(comparison.first.leaves))))]
-    here = comparison.first
-    for move in comparison.moves[:MOST_MOVES]:
-        after = made(graph, here, move)
-        order = [0] * len(after.leaves)
-        for leaf, partner, _ in compare(graph, here, after).pairs:
-            order[partner] = found[-1].order[leaf]
-        found.append(Stage(tree_of(with_kinds(after, comparison, order), plain), order))
-        here = after
-    return found
-
-
-def made(graph: Graph, tree: Decomposition, move: Move) -> Decomposition:
-    """Returns what a move makes of a tree, by the program. Raises `ValueError` if it fails."""
-    result = replay(graph, tree, Moves([move])).result
-    if result is None:
-        raise ValueError(f"the move {move} cannot be made")
-    return result
-
-
-def with_kinds(
-    tree: Decomposition, comparison: Comparison, order: Sequence[int]
-) -> Decomposition:
-    """Returns a tree whose leaves have the kinds of their partners, as far as these are known."""
-    kinds = [comparison.first.leaves[k].kind for k in order]
-    if any(kind is None for kind in kinds):
-        return tree
-    return Decomposition(tree.graph, tree.tree, [str(kind) for kind in kinds])
 
 
 def node_at(tree: PlainTree, path: str) -> Node:
@@ -154,18 +111,13 @@ def draw_comparison(
     tint and drawing; below them all trees between in outline, and an arrow for each move (at most
     40). Shores of one tree alone are rust, those of both are blue.
 
-    `pos`, `labels` and `ax` as for `draw`. Raises `ImportError` without NumPy and NetworkX, and the
-    exceptions on programs, which make the moves one by one.
+    `pos`, `labels` and `ax` as for `draw`. Raises `ImportError` without NumPy and NetworkX.
     """
     graph = comparison.first.graph
     plain = named(graph, labels)
     stages = stages_of(comparison, plain)
     first, second = stages[0].tree, tree_of(comparison.second, plain)
-    order = [0] * len(comparison.pairs)
-    for leaf, partner, _ in comparison.pairs:
-        order[partner] = leaf
-    if len(stages) == len(comparison.moves) + 1:
-        stages[-1] = Stage(stages[-1].tree, order)
+    order = partners(comparison)
     listed = [shore for tree in (first, second) for shore in tree.shores()]
     listed += [shore for stage in stages for shore in stage.tree.shores()]
     names = names_of(listed, plain.order)

@@ -1,11 +1,11 @@
 """Lines where a field on a grid is zero, and smooth paths through points."""
 from __future__ import annotations
 
-from typing import Dict, List, Tuple
+from typing import Dict, List, Sequence, Tuple
 
 import numpy as np
 
-from .layout.arrays import Array
+from .layout.arrays import Array, Flags
 from .scene import Steps
 
 _Node = Tuple[Tuple[int, int], Tuple[int, int]]
@@ -95,11 +95,17 @@ def as_steps(q: Array, closed: bool = True, every: int = 3) -> Steps:
     return steps + [("Z",)] if closed else steps
 
 
-def within(point: Tuple[float, float], loop: Array) -> bool:
-    """Returns whether a point is inside a closed line."""
-    x, y = point
-    a, b = loop, np.roll(loop, -1, 0)
+def inside(points: Array, loop: Array) -> Flags:
+    """Returns which points are inside a closed line."""
+    x, y = points[:, 0, None], points[:, 1, None]
+    a, b = loop, np.concatenate([loop[1:], loop[:1]])
     crosses = (a[:, 1] > y) != (b[:, 1] > y)
-    rise = np.where(crosses, b[:, 1] - a[:, 1], 1.0)
-    at = a[:, 0] + (y - a[:, 1]) / rise * (b[:, 0] - a[:, 0])
-    return bool((crosses & (x < at)).sum() % 2)
+    rise = np.where(a[:, 1] != b[:, 1], b[:, 1] - a[:, 1], 1.0)
+    at = a[:, 0] + (y - a[:, 1]) * ((b[:, 0] - a[:, 0]) / rise)
+    found: Flags = (crosses & (x < at)).sum(1) % 2 == 1
+    return found
+
+
+def within(point: Sequence[float], loop: Array) -> bool:
+    """Returns whether a point is inside a closed line."""
+    return bool(inside(np.array([point], dtype=float), loop)[0])

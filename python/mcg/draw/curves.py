@@ -13,6 +13,7 @@ from typing import Dict, FrozenSet, Iterable, List, NamedTuple, Optional, Tuple
 import numpy as np
 
 from .contours import contours, smooth, within
+from .contours import inside as contains
 from .geometry import meetings, segments
 from .graph_scene import Frame
 from .layout.arrays import Array
@@ -20,6 +21,7 @@ from .style import Point
 
 STEP = 3.0  # of the grid
 _FAR = 1e6
+_COARSE = 40  # vertices; for more the grid is coarser
 
 Line = List[Point]
 
@@ -116,7 +118,8 @@ class _Grid:
 
     def __init__(self, points: Array, margin: float) -> None:
         low, high = points.min(0) - margin, points.max(0) + margin
-        self.xs, self.ys = np.arange(low[0], high[0] + STEP, STEP), np.arange(low[1], high[1] + STEP, STEP)
+        self.step = STEP if len(points) <= _COARSE else 4.0
+        self.xs, self.ys = (np.arange(low[k], high[k] + self.step, self.step) for k in (0, 1))
         self.shape = (len(self.ys), len(self.xs))
 
     def distance(self, lines: List[Line], reach: float) -> Array:
@@ -136,10 +139,9 @@ class _Grid:
             np.minimum(part, np.sqrt(x * x + y * y), out=part)
         return found
 
-    @staticmethod
-    def _span(axis: Array, low: float, high: float) -> Tuple[int, int]:
-        start = max(0, int((low - axis[0]) / STEP))
-        return start, min(len(axis), int((high - axis[0]) / STEP) + 2)
+    def _span(self, axis: Array, low: float, high: float) -> Tuple[int, int]:
+        start = max(0, int((low - axis[0]) / self.step))
+        return start, min(len(axis), int((high - axis[0]) / self.step) + 2)
 
 
 def around(frame: Frame, shore: Iterable[int], depth: int = 0) -> Curve:
@@ -158,18 +160,16 @@ def around(frame: Frame, shore: Iterable[int], depth: int = 0) -> Curve:
     rims = [grid.distance(it, reach) - frame.radius for it in dots]
     balance = np.minimum(dt, rims[1]) - np.minimum(ds, rims[0])
     loops = contours(grid.xs, grid.ys, np.minimum(pad - ds, 0.75 * balance))
-    outer = [it for it in loops if any(within(frame.points[v], it) for v in inside)]
-    if outer and all(any(within(frame.points[v], it) for it in outer) for v in outside):
+    is_in = np.isin(np.arange(len(points)), sorted(inside))
+    held = [contains(points, it) for it in loops]
+    outer = [it for it, has in zip(loops, held) if has[is_in].any()]
+    holds = np.any([has for has in held if has[is_in].any()], axis=0)
+    if outer and bool(np.all(holds | is_in)):
         loops = contours(grid.xs, grid.ys, np.minimum(pad - dt, -0.75 * balance))
-        outer = [it for it in loops if any(within(frame.points[v], it) for v in outside)]
+        outer = [it for it in loops if contains(points, it)[~is_in].any()]
         return Curve([smooth(it) for it in _outermost(outer)], True)
     # a hole of the region counts only if foreign vertices lie in it
-    holes = [
-        it
-        for it in loops
-        if not any(within(frame.points[v], it) for v in inside)
-        and any(within(frame.points[v], it) for v in outside)
-    ]
+    holes = [it for it, has in zip(loops, held) if not has[is_in].any() and has[~is_in].any()]
     return Curve([smooth(it) for it in _outermost(outer) + holes], False)
 
 

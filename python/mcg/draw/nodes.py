@@ -1,10 +1,21 @@
 """Trees of cuts as pictures need them: each node with its contraction, cuts and leaves numbered."""
 from __future__ import annotations
 
-from typing import Any, Dict, FrozenSet, Iterator, List, NamedTuple, Optional, Sequence
+import itertools
+from functools import cached_property
+from typing import (
+    Dict,
+    FrozenSet,
+    Iterator,
+    List,
+    NamedTuple,
+    Optional,
+    Sequence,
+    Tuple,
+    Union,
+)
 
-from ..graphs import Graph
-from ..trees import Cut, Decomposition, Leaf, Tree, sides
+from ..trees import Decomposition, Leaf, Tree, sides
 from .plain import PlainGraph
 from .scene import Run, Runs
 from .style import Point
@@ -14,8 +25,7 @@ Names = Dict[Set, Runs]
 
 
 class Node:
-    """A node of a tree: `blocks`, sets of vertices from 0 by their greatest; `graph`, the
-    contraction at these; `shore` and `below`, the nodes `kept` and `merged`, at a cut; `kind` at a
+    """A node of a tree: `blocks`, sets of vertices from 0 by their greatest; `shore` and `below`, the nodes `kept` and `merged`, at a cut; `kind` at a
     leaf. `number` counts cuts and leaves each from 0 in preorder, `path` leads from the root.
 
     `places` are those of the blocks, once a layout has found them.
@@ -24,13 +34,17 @@ class Node:
     def __init__(self, whole: PlainGraph, blocks: Sequence[Set], above: Optional[Node]) -> None:
         self.whole, self.above = whole, above
         self.blocks = sorted(blocks, key=max)
-        self.graph = whole.contracted(self.blocks)
         self.shore: Optional[Set] = None
         self.below: List[Node] = []
         self.kind: Optional[str] = None
         self.number = 0
         self.path = ""
         self.places: List[Point] = []
+
+    @cached_property
+    def graph(self) -> PlainGraph:
+        """The contraction at the blocks."""
+        return self.whole.contracted(self.blocks)
 
     def walk(self) -> Iterator[Node]:
         """Returns this node and all below it, in preorder."""
@@ -64,37 +78,54 @@ class PlainTree(NamedTuple):
         return [node.shore for node in self.cuts if node.shore]
 
 
-def tree_of(decomposition: Decomposition, whole: Optional[PlainGraph] = None) -> PlainTree:
-    """Returns the tree of a decomposition, with the names of its graph or other ones."""
-    graph = decomposition.graph
-    plain = whole or PlainGraph.of(graph)
+# A tree without its graphs: the number of a leaf, or a shore with the trees `kept` and `merged`.
+Shape = Union[int, Tuple[Set, "Shape", "Shape"]]
+
+
+def shape_of(decomposition: Decomposition) -> Shape:
+    """Returns the shape of a decomposition, its leaves numbered from 0 in preorder."""
+    numbers = itertools.count()
+
+    def shape(tree: Tree) -> Shape:
+        if isinstance(tree, Leaf):
+            return next(numbers)
+        shore, kept, merged = sides(decomposition.graph, tree)
+        first = shape(kept)
+        return frozenset(v - 1 for v in shore), first, shape(merged)
+
+    return shape(decomposition.tree)
+
+
+def grown(shape: Shape, whole: PlainGraph, kinds: Sequence[Optional[str]]) -> PlainTree:
+    """Returns the tree of a shape; `kinds` has the kind of each leaf by its number in the shape."""
     cuts: List[Node] = []
     leaves: List[Node] = []
+    everything = frozenset(range(whole.order))
 
-    def make(tree: Tree, blocks: List[Set], above: Optional[Node], path: str) -> Node:
-        node = Node(plain, blocks, above)
+    def make(part: Shape, blocks: List[Set], above: Optional[Node], path: str) -> Node:
+        node = Node(whole, blocks, above)
         node.path = path
-        if isinstance(tree, Leaf):
-            node.kind, node.number = tree.kind, len(leaves)
+        if isinstance(part, int):
+            node.kind, node.number = kinds[part], len(leaves)
             leaves.append(node)
             return node
         node.number = len(cuts)
         cuts.append(node)
-        shore, kept, merged = _shore(graph, tree)
-        rest = frozenset(range(graph.order)) - shore
+        shore, kept, merged = part
         node.shore = shore
-        inner = [block for block in blocks if block <= shore] + [rest]
+        inner = [block for block in blocks if block <= shore] + [everything - shore]
         outer = [block for block in blocks if not block <= shore] + [shore]
         node.below = [make(kept, inner, node, path + "k"), make(merged, outer, node, path + "m")]
         return node
 
-    root = make(decomposition.tree, [frozenset([v]) for v in range(graph.order)], None, "")
+    root = make(shape, [frozenset([v]) for v in range(whole.order)], None, "")
     return PlainTree(root, cuts, leaves)
 
 
-def _shore(graph: Graph, cut: Cut) -> Any:
-    shore, kept, merged = sides(graph, cut)
-    return frozenset(v - 1 for v in shore), kept, merged
+def tree_of(decomposition: Decomposition, whole: Optional[PlainGraph] = None) -> PlainTree:
+    """Returns the tree of a decomposition, with the names of its graph or other ones."""
+    kinds = [leaf.kind for leaf in decomposition.leaves]
+    return grown(shape_of(decomposition), whole or PlainGraph.of(decomposition.graph), kinds)
 
 
 def cut_name(k: int, total: int) -> Runs:

@@ -2,7 +2,7 @@
 from __future__ import annotations
 
 import math
-from typing import Optional, Sequence
+from typing import Dict, FrozenSet, List, Optional, Sequence
 
 import numpy as np
 
@@ -12,10 +12,11 @@ from .layout.measures import crossings, resolution, scaled, strangers
 from .layout.plane import is_planar
 from .layout.relaxing import relax
 from .layout.symmetry import automorphisms
-from .nodes import Node, PlainTree
+from .nodes import Node, PlainTree, Set
 from .style import Point
 
 _SMALL = 6  # a graph of at most so many blocks gets a drawing of its own
+_LARGE = 24  # a node of more blocks always keeps the places of its parent
 _CROWDED = 0.3  # the room below which it gets one, too
 
 
@@ -30,6 +31,18 @@ def arrange(tree: PlainTree, places: Optional[Sequence[Point]] = None) -> None:
         else:
             found = _followed(node, node.above)
         node.places = as_points(found)
+
+
+def follow_to(node: Node, known: Dict[FrozenSet[Set], List[Point]]) -> List[Point]:
+    """Returns the places of a node, found down from the root without what is beside the way; `known`
+    has those that were found before, by their blocks."""
+    blocks = frozenset(node.blocks)
+    if blocks not in known:
+        assert node.above is not None
+        node.above.places = follow_to(node.above, known)
+        found = as_points(_followed(node, node.above))
+        known[blocks] = found
+    return known[blocks]
 
 
 def _target(node: Node, above: Node) -> Array:
@@ -53,12 +66,15 @@ def _followed(node: Node, above: Node) -> Array:
     if not node.below or len(node.blocks) <= _SMALL:
         return _own(node, target)
     q = _best_square(node, above, target)
+    is_large = len(node.blocks) > _LARGE
     if q is None:
-        return _own(node, target)
+        if not is_large:
+            return _own(node, target)
+        q = target
     pairs, many = node.graph.pairs, node.graph.parallel()
     slack = np.array([1.0 + 0.9 * (len(many[pair]) - 1) for pair in pairs])
-    q = relax(q, pairs, 200 if len(q) <= 24 else 40, slack=slack)
-    if resolution(q, pairs) < _CROWDED or strangers(q, node.inner_shores()):
+    q = relax(q, pairs, 16 if is_large else 200, slack=slack)
+    if not is_large and (resolution(q, pairs) < _CROWDED or strangers(q, node.inner_shores())):
         return _own(node, target)
     far = float(np.ptp(np.array(above.places), axis=0).max())
     return centred(q * min(1.0, far / float(np.ptp(q, axis=0).max())))
