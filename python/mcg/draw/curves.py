@@ -116,9 +116,9 @@ def _shortest_tree(inner: List[Tuple[int, int, Line]], hits: List[List[bool]]) -
 class _Grid:
     """The points of a grid around a drawing, and distances from lines."""
 
-    def __init__(self, points: Array, margin: float) -> None:
+    def __init__(self, points: Array, margin: float, order: int) -> None:
         low, high = points.min(0) - margin, points.max(0) + margin
-        self.step = STEP if len(points) <= _COARSE else 4.0
+        self.step = STEP if order <= _COARSE else 4.0
         self.xs, self.ys = (np.arange(low[k], high[k] + self.step, self.step) for k in (0, 1))
         self.shape = (len(self.ys), len(self.xs))
 
@@ -151,26 +151,47 @@ def around(frame: Frame, shore: Iterable[int], depth: int = 0) -> Curve:
     points = np.array(frame.points)
     pad = frame.radius + 8.0 + 4.5 * depth
     s, t = skeletons(frame, inside)
-    grid = _Grid(points, pad + 12)
-    reach = pad + frame.radius + 18.0
-    ds, dt = grid.distance(s, reach), grid.distance(t, reach)
-    # for the balance a vertex counts from its rim, for the distance kept from its middle
-    outside = [v for v in range(len(points)) if v not in inside]
-    dots = [[[frame.points[v]] * 2 for v in part] for part in (sorted(inside), outside)]
-    rims = [grid.distance(it, reach) - frame.radius for it in dots]
-    balance = np.minimum(dt, rims[1]) - np.minimum(ds, rims[0])
+    grid = _Grid(_points_of(s), pad + 12, len(points))
+    ds, _, balance = _balance(frame, inside, grid, s, t)
     loops = contours(grid.xs, grid.ys, np.minimum(pad - ds, 0.75 * balance))
     is_in = np.isin(np.arange(len(points)), sorted(inside))
     held = [contains(points, it) for it in loops]
     outer = [it for it, has in zip(loops, held) if has[is_in].any()]
     holds = np.any([has for has in held if has[is_in].any()], axis=0)
     if outer and bool(np.all(holds | is_in)):
-        loops = contours(grid.xs, grid.ys, np.minimum(pad - dt, -0.75 * balance))
-        outer = [it for it in loops if contains(points, it)[~is_in].any()]
-        return Curve([smooth(it) for it in _outermost(outer)], True)
+        return _round_the_rest(frame, inside, pad, s, t)
     # a hole of the region counts only if foreign vertices lie in it
     holes = [it for it, has in zip(loops, held) if not has[is_in].any() and has[~is_in].any()]
     return Curve([smooth(it) for it in _outermost(outer) + holes], False)
+
+
+def _points_of(lines: List[Line]) -> Array:
+    return np.array([point for line in lines for point in line])
+
+
+def _balance(
+    frame: Frame, inside: FrozenSet[int], grid: _Grid, s: List[Line], t: List[Line]
+) -> Tuple[Array, ...]:
+    """The distances of the grid from the shore and from the rest, and how much nearer the shore is;
+    for that a vertex counts from its rim."""
+    reach = 2 * frame.radius + 40.0
+    ds, dt = grid.distance(s, reach), grid.distance(t, reach)
+    outside = [v for v in range(len(frame.points)) if v not in inside]
+    dots = [[[frame.points[v]] * 2 for v in part] for part in (sorted(inside), outside)]
+    rims = [grid.distance(it, reach) - frame.radius for it in dots]
+    return ds, dt, np.minimum(dt, rims[1]) - np.minimum(ds, rims[0])
+
+
+def _round_the_rest(
+    frame: Frame, inside: FrozenSet[int], pad: float, s: List[Line], t: List[Line]
+) -> Curve:
+    """The curve round the other side of a shore that surrounds it."""
+    grid = _Grid(_points_of(t), pad + 12, len(frame.points))
+    _, dt, balance = _balance(frame, inside, grid, s, t)
+    loops = contours(grid.xs, grid.ys, np.minimum(pad - dt, -0.75 * balance))
+    outside = np.array([p for v, p in enumerate(frame.points) if v not in inside])
+    outer = [it for it in loops if contains(outside, it).any()]
+    return Curve([smooth(it) for it in _outermost(outer)], True)
 
 
 def _outermost(loops: List[Array]) -> List[Array]:
@@ -190,7 +211,7 @@ def through(frame: Frame, shore: Iterable[int]) -> List[Array]:
     if line is not None:
         return [line]
     s, t = skeletons(frame, inside)
-    grid = _Grid(np.array(frame.points), reach)
+    grid = _Grid(np.array(frame.points), reach, len(frame.points))
     far = max(grid.shape) * STEP
     value = grid.distance(t, far) - grid.distance(s, far)
     whole = pieces(s + t + list(frame.lines().values()))

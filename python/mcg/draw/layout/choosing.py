@@ -3,7 +3,8 @@ from __future__ import annotations
 
 import itertools
 import math
-from typing import Iterable, List, Optional, Sequence, Tuple
+from functools import lru_cache
+from typing import FrozenSet, Iterable, List, Optional, Sequence, Tuple
 
 import numpy as np
 
@@ -23,8 +24,18 @@ def place(graph: PlainGraph, shores: Shores = ()) -> Array:
     """Returns places for the vertices in units of a mean edge, y upward, the same in every run.
 
     `shores` are those of a decomposition, if one is known: their vertices are kept together. The
-    least costly of several drawings is chosen; what makes up the cost is in `measures`.
+    least costly of several drawings is chosen; what makes up the cost is in `measures`. The simple
+    graphs placed last are remembered.
     """
+    known = _placed(graph.order, tuple(graph.pairs), tuple(map(frozenset, shores)))
+    return known.copy()
+
+
+@lru_cache(maxsize=64)
+def _placed(
+    order: int, pairs: Tuple[Tuple[int, int], ...], shores: Tuple[FrozenSet[int], ...]
+) -> Array:
+    graph = PlainGraph([""] * order, pairs)
     parts = graph.components()
     if len(parts) > 1:
         return _side_by_side(graph, parts)

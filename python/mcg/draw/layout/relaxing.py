@@ -118,10 +118,12 @@ class _Forces:
         t, wx, wy, far = self._from_edges(x, y, ax, ay, dx, dy, square)
         lack = np.maximum(self.reach - far, 0.0) / np.maximum(far, 0.03)
         lack *= lack * ((t > 0) & (t < 1))
-        force = np.stack(
-            [self._along(x, y, lack * wx, t, dx * pull), self._along(y, x, lack * wy, t, dy * pull)], 2
-        )
-        return force, self._bound(far, heat)
+        du, dv = x[:, :, None] - x[:, None], y[:, :, None] - y[:, None]
+        apart = np.sqrt(du * du + dv * dv)
+        strong = np.where(apart < 3.0, 1.0 / np.maximum(apart, 0.05) ** 3, 0.0)
+        along_x = self._along(strong * du, lack * wx, t, dx * pull)
+        along_y = self._along(strong * dv, lack * wy, t, dy * pull)
+        return np.stack([along_x, along_y], 2), self._bound(far, heat)
 
     def _from_edges(self, *given: Array) -> Tuple[Array, Array, Array, Array]:
         """The nearest place on each edge for each vertex, the way from there, and how far it is."""
@@ -132,14 +134,12 @@ class _Forces:
         wy -= t * dy[:, None]
         return t, wx, wy, np.sqrt(wx * wx + wy * wy) + self.own
 
-    def _along(self, u: Array, v: Array, push: Array, t: Array, pull: Array) -> Array:
-        """The forces along one axis: vertices that repel one another, springs, and edges."""
-        du, dv = u[:, :, None] - u[:, None], v[:, :, None] - v[:, None]
-        far = np.sqrt(du * du + dv * dv)
-        strong = np.where(far < 3.0, 1.0 / np.maximum(far, 0.05) ** 3, 0.0)
+    def _along(self, apart: Array, push: Array, t: Array, pull: Array) -> Array:
+        """The forces along one axis: vertices that repel one another, edges that repel vertices,
+        and springs."""
         at_second = np.einsum("knm,knm->km", push, t)
         at_first = push.sum(1) - at_second
-        found: Array = (strong * du).sum(2) + push.sum(2)
+        found: Array = apart.sum(2) + push.sum(2)
         found = found + (pull - at_first) @ self.at_first - (pull + at_second) @ self.at_second
         return found
 
