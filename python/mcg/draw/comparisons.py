@@ -6,12 +6,15 @@ from typing import Any, Dict, List, Mapping, Optional, Sequence, Tuple
 from ..comparisons import Comparison
 from ..moves import Move, Rotate, Switch
 from . import style
+from .dot import quoted
 from .graphs import Positions, named, places_of
+from .lists import add_names, add_sets
 from .needs import laid_out
-from .nodes import Names, Node, PlainTree, Set, names_of, tree_of
+from .nodes import Names, Node, PlainTree, Set, leaf_marks, names_of, smaller_sets, tree_of
+from .outlines import outline
 from .picture import Picture, finished
 from .plain import name_of
-from .scene import Pen, Run, Runs, Scene, words_width
+from .scene import Pen, Run, Runs, Scene, plain_words, words_width
 from .stages import Stage, partners, stages_of
 from .style import Point
 
@@ -43,7 +46,10 @@ def told(move: Move, before: PlainTree, names: Names) -> Tuple[Runs, Runs]:
     """Returns a move in words: what it is, and what it does."""
     if isinstance(move, Switch):
         words = f": {_listed(before, move.leaves)} leaves, {_listed(before, move.joins)} joins"
-        return [Run("Switch", bold=True)], [*names[shore_of(node_at(before, move.path))], Run(words)]
+        return [Run("Switch", bold=True)], [
+            *names[shore_of(node_at(before, move.path))],
+            Run(words),
+        ]
     upper, lower = node_at(before, upper_path(move)), node_at(before, move.path)
     words_of = [*names[shore_of(lower)], Run(" goes above "), *names[shore_of(upper)]]
     return [Run("Rotate", bold=True)], words_of
@@ -67,12 +73,10 @@ def moving(stages: Sequence[Stage], moves: Sequence[Move], at: int) -> List[Set]
 def strip(stages: Sequence[Stage], moves: Sequence[Move], names: Names) -> Scene:
     """Returns all trees in outline from left to right, with an arrow and its words for each move; a
     long list goes on in the next row."""
-    outlines: Any = laid_out("outlines")
-    marks: Any = laid_out("tree_pictures").leaf_marks
     scene, x, y, deep = Scene(), 0.0, 0.0, 0.0
     for at, stage in enumerate(stages):
         hot = moving(stages, moves, at)
-        it = outlines.outline(stage.tree, names, marks(len(stage.order), stage.order), hot)
+        it = outline(stage.tree, names, leaf_marks(len(stage.order), stage.order), hot)
         deep = max(deep, it.box[3])
         scene.open("state", at=at)
         scene.put(it, x - it.box[0], y)
@@ -149,8 +153,8 @@ def both_trees(
     laid_out("tree_places").arrange(second, places)
     odd = set(first.shores()) ^ set(second.shores())
     shared = laid_out("panels").TreeStyle(first.whole, names, odd)
-    one = pictures.draw_tree(first, shared, pictures.leaf_marks(len(first.leaves)), "a")
-    other = pictures.draw_tree(second, shared, pictures.leaf_marks(len(order), order), "b")
+    one = pictures.draw_tree(first, shared, leaf_marks(len(first.leaves)), "a")
+    other = pictures.draw_tree(second, shared, leaf_marks(len(order), order), "b")
     scene = Scene()
     top = max(it.root[1] - it.scene.box[1] for it in (one, other))
     x = 0.0
@@ -158,8 +162,8 @@ def both_trees(
         scene.put(it.scene, x - it.scene.box[0], top - it.root[1])
         x += it.scene.wide + _BETWEEN
     shores = sorted(set(first.shores() + second.shores()), key=lambda s: _number(names[s]))
-    pictures.add_sets(scene, pictures.smaller_sets(shores, first.whole.order, names), shared.short)
-    pictures.add_names(scene, shared.key)
+    add_sets(scene, smaller_sets(shores, first.whole.order, names), shared.short)
+    add_names(scene, shared.key)
     return scene
 
 
@@ -178,3 +182,24 @@ def _share_places(comparison: Comparison, first: PlainTree, second: PlainTree) -
         one, other = first.leaves[leaf], second.leaves[partner]
         place = dict(zip(one.blocks, one.places))
         other.places = [place[images[block]] for block in other.blocks]
+
+
+def comparison_dot(comparison: Comparison) -> str:
+    """Returns both trees in outline for Graphviz's `dot`, without places; needs nothing. Partners
+    are joined by dashed lines."""
+    trees = [tree_of(it) for it in (comparison.first, comparison.second)]
+    names = names_of(trees[0].shores() + trees[1].shores(), trees[0].whole.order)
+    rows = []
+    for side, tree in zip("ab", trees):
+        for node in tree.root.walk():
+            label = plain_words(names[node.shore]) if node.shore else node.kind or "leaf"
+            look = ", shape=box" if node.shore is None else ""
+            rows.append(f"  {quoted(side + node.path)} [label={quoted(label)}{look}];")
+            rows += [
+                f"  {quoted(side + node.path)} -- {quoted(side + it.path)};" for it in node.below
+            ]
+    for leaf, partner, _ in comparison.pairs:
+        ends = (f"a{trees[0].leaves[leaf].path}", f"b{trees[1].leaves[partner].path}")
+        rows.append(f"  {quoted(ends[0])} -- {quoted(ends[1])} [style=dashed, constraint=false];")
+    body = "".join(f"{row}\n" for row in rows)
+    return f"graph {{\n{body}}}\n"

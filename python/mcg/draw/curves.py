@@ -69,11 +69,16 @@ def skeletons(frame: Frame, shore: FrozenSet[int]) -> Tuple[List[Line], List[Lin
         kept = _shortest_tree(inner, hits)
         outer = [it for j, it in enumerate(outer) if not any(hits[k][j] for k in kept)]
         inner = [inner[k] for k in kept]
-    dots = [[[p, p] for v, p in enumerate(frame.points) if (v in shore) is side] for side in (True, False)]
+    dots = [
+        [[p, p] for v, p in enumerate(frame.points) if (v in shore) is side]
+        for side in (True, False)
+    ]
     return dots[0] + [it[2] for it in inner], dots[1] + [it[2] for it in outer]
 
 
-def _hits(inner: List[Tuple[int, int, Line]], outer: List[Tuple[int, int, Line]]) -> List[List[bool]]:
+def _hits(
+    inner: List[Tuple[int, int, Line]], outer: List[Tuple[int, int, Line]]
+) -> List[List[bool]]:
     """Which edges of the shore cross which of the rest."""
     others = [segments(it[2]) for it in outer]
     boxes = [_box(it[2]) for it in outer]
@@ -83,7 +88,11 @@ def _hits(inner: List[Tuple[int, int, Line]], outer: List[Tuple[int, int, Line]]
         one = segments(line)
         found.append(
             [
-                x0 < box[2] and box[0] < x1 and y0 < box[3] and box[1] < y1 and meetings(one, other) > 0
+                x0 < box[2]
+                and box[0] < x1
+                and y0 < box[3]
+                and box[1] < y1
+                and meetings(one, other) > 0
                 for box, other in zip(boxes, others)
             ]
         )
@@ -105,7 +114,9 @@ def _shortest_tree(inner: List[Tuple[int, int, Line]], hits: List[List[bool]]) -
         return v
 
     kept = []
-    for k in sorted(range(len(inner)), key=lambda k: (sum(hits[k]), math.dist(inner[k][2][0], inner[k][2][-1]))):
+    for k in sorted(
+        range(len(inner)), key=lambda k: (sum(hits[k]), math.dist(inner[k][2][0], inner[k][2][-1]))
+    ):
         a, b = find(inner[k][0]), find(inner[k][1])
         if a != b:
             head[a] = b

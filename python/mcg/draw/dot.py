@@ -21,7 +21,9 @@ def to_dot(scene: Scene) -> str:
     rows: List[str] = []
     for mark in scene.marks:
         if isinstance(mark, Disc) and mark.key:
-            rows.append(_vertex(mark.key, mark.name, mark.x, mark.y, mark.radius, "circle", mark.pen.fill))
+            rows.append(
+                _vertex(mark.key, mark.name, mark.x, mark.y, mark.radius, "circle", mark.pen.fill)
+            )
         elif isinstance(mark, Polygon) and mark.key:
             x = (min(p[0] for p in mark.points) + max(p[0] for p in mark.points)) / 2
             y = (min(p[1] for p in mark.points) + max(p[1] for p in mark.points)) / 2
@@ -42,8 +44,14 @@ def _vertex(
     key: str, name: str, x: float, y: float, radius: float, shape: str, fill: Optional[str]
 ) -> str:
     size = f"{2 * radius / 72:.3f}"
-    look = f'label={quoted(name)}, pos="{x:.2f},{-y:.2f}!", width={size}, height={size}, shape={shape}'
-    ink = ', fontcolor="#ffffff"' if fill and fill.lower() in ("#1c1c1c", "#16324f", "#a83a24") else ""
+    look = (
+        f'label={quoted(name)}, pos="{x:.2f},{-y:.2f}!", width={size}, height={size}, shape={shape}'
+    )
+    ink = (
+        ', fontcolor="#ffffff"'
+        if fill and fill.lower() in ("#1c1c1c", "#16324f", "#a83a24")
+        else ""
+    )
     return f'  {quoted(key)} [{look}, fillcolor="{fill or "#ffffff"}"{ink}];'
 
 

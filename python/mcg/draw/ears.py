@@ -6,6 +6,7 @@ from typing import Any, List, Mapping, NamedTuple, Optional, Sequence, Set
 from ..ear_lists import Ears
 from ..graphs import Graph, GraphLike
 from . import style
+from .dot import quoted
 from .graph_scene import Frame, Look, draw_frame, frame_of
 from .graphs import Positions, named, places_of
 from .keys import Entry, add_key
@@ -169,3 +170,20 @@ def draw_ears(
     count = len(ears.steps)
     words = title or f"An ear decomposition with {count} step{'' if count == 1 else 's'}"
     return finished(scene, words, "", ax)
+
+
+def ears_dot(ears: Ears) -> str:
+    """Returns the graph of an ear decomposition for Graphviz, without places; needs nothing. Each
+    edge has the number of its step, the second ear of a step is dashed."""
+    graph = graph_of(ears)
+    plain = PlainGraph.of(graph)
+    rows = [f"  {quoted(str(v))} [label={quoted(name)}];" for v, name in enumerate(plain.names)]
+    for at, step in enumerate(steps_of(graph, ears)):
+        for ear, style_of in zip(step.edges, ("solid", "dashed")):
+            for k in ear:
+                a, b = plain.edges[k]
+                rows.append(
+                    f'  {quoted(str(a))} -- {quoted(str(b))} [label="{at}", style={style_of}];'
+                )
+    body = "".join(f"{row}\n" for row in rows)
+    return f"graph {{\n  node [shape=circle];\n{body}}}\n"

@@ -62,7 +62,9 @@ def room(points: Iterable[Point], line: Sequence[Point]) -> float:
 def box_distance(box: Box, point: Point) -> float:
     """Returns the distance of a point from a box, 0 inside."""
     x0, y0, x1, y1 = box
-    return math.hypot(max(0.0, x0 - point[0], point[0] - x1), max(0.0, y0 - point[1], point[1] - y1))
+    return math.hypot(
+        max(0.0, x0 - point[0], point[0] - x1), max(0.0, y0 - point[1], point[1] - y1)
+    )
 
 
 def overlap(a: Box, b: Box) -> bool:

@@ -282,4 +282,3 @@ def _size_inside(words: Words, radius: float, letters: float) -> float:
     wide = style.width(plain_words(words), letters)
     room = 2 * radius - 2.5
     return letters if wide <= room else letters * max(0.72, room / wide)
-

@@ -5,8 +5,6 @@ import itertools
 from functools import lru_cache
 from typing import Any, Iterable, List, Tuple
 
-import networkx as nx
-
 from .plain import PlainGraph
 from .scene import Run, Runs
 
@@ -37,6 +35,8 @@ def _both(a: int, b: int) -> Iterable[Tuple[int, int]]:
 @lru_cache(maxsize=None)
 def _known() -> List[Tuple[Any, Runs]]:
     """The graphs that have a name, with the name."""
+    import networkx as nx
+
     listed: List[Tuple[Iterable[Tuple[int, int]], Runs]] = [
         ([(0, 1)], _letter("K", "2")),
         (itertools.combinations(range(4), 2), _letter("K", "4")),
@@ -57,10 +57,15 @@ def _known() -> List[Tuple[Any, Runs]]:
 
 
 def leaf_name(graph: PlainGraph) -> Runs:
-    """Returns the name of the simple graph beneath, or how many vertices it has."""
+    """Returns the name of the simple graph beneath, or on how many vertices it is; without NetworkX
+    always that."""
+    try:
+        import networkx as nx
+    except ImportError:
+        return [Run(f"on {graph.order} vertices")]
     simple = nx.Graph(graph.pairs)
     for known, name in _known():
         same = len(known) == len(simple) and known.number_of_edges() == simple.number_of_edges()
         if same and nx.is_isomorphic(known, simple):
             return name
-    return [Run(f"{graph.order} vertices")]
+    return [Run(f"on {graph.order} vertices")]

@@ -58,7 +58,11 @@ class Beside:
         for turn, more in self._spots(v, near):
             c, s = math.cos(turn), math.sin(turn)
             # the box touches the circle round the vertex at its nearest point
-            x = self.points[v][0] + c * (reach + more) + (c if abs(c) > 0.35 else 0.6 * c) * wide / 2
+            x = (
+                self.points[v][0]
+                + c * (reach + more)
+                + (c if abs(c) > 0.35 else 0.6 * c) * wide / 2
+            )
             y = self.points[v][1] + s * (reach + more) + s * high / 2
             box = widened((x - wide / 2, y - high / 2, x + wide / 2, y + high / 2), 0.8)
             if self._is_free(box):

@@ -16,6 +16,7 @@ from typing import (
 )
 
 from ..trees import Decomposition, Leaf, Tree, sides
+from . import style
 from .plain import PlainGraph
 from .scene import Run, Runs
 from .style import Point
@@ -151,7 +152,14 @@ def names_of(shores: Sequence[Set], order: int) -> Names:
     return found
 
 
-def smaller(shore: Set, order: int, names: Names) -> "NamedSet":
+class NamedSet(NamedTuple):
+    """A set of vertices and its name."""
+
+    name: Runs
+    vertices: Set
+
+
+def smaller(shore: Set, order: int, names: Names) -> NamedSet:
     """Returns a shore or, if that has fewer vertices, its complement, with its name."""
     if 2 * len(shore) <= order:
         return NamedSet(names[shore], shore)
@@ -159,8 +167,19 @@ def smaller(shore: Set, order: int, names: Names) -> "NamedSet":
     return NamedSet(names[rest], rest)
 
 
-class NamedSet(NamedTuple):
-    """A set of vertices and its name."""
+def smaller_sets(shores: Sequence[Set], order: int, names: Names) -> List[NamedSet]:
+    """Returns for each shore the smaller of its two sides, with its name."""
+    return [smaller(shore, order, names) for shore in dict.fromkeys(shores)]
 
-    name: Runs
-    vertices: Set
+
+class LeafMark(NamedTuple):
+    """The letter and the tint of a leaf."""
+
+    letter: str
+    tint: str
+
+
+def leaf_marks(count: int, order: Optional[Sequence[int]] = None) -> List[LeafMark]:
+    """Returns the letters and tints of some leaves; `order` says which letter each has."""
+    listed = range(count) if order is None else order
+    return [LeafMark(style.letter(k), style.tint(k)) for k in listed]

@@ -1,16 +1,13 @@
 """Trees without their graphs: a disc with the name of its shore for a cut, a square with its letter
-for a leaf; and the map of a tree with many leaves."""
+for a leaf. This needs no other package."""
 from __future__ import annotations
 
 from typing import Collection, Dict, Sequence
 
 from . import style
-from .graph_scene import Look, draw_graph
 from .leaf_names import leaf_name
-from .nodes import Names, Node, PlainTree, Set
+from .nodes import LeafMark, Names, Node, PlainTree, Set
 from .scene import Pen, Run, Runs, Scene, plain_words
-from .shores import Shore, draw_shores
-from .tree_pictures import LeafMark
 
 _DOWN = 36.0
 _LINE = Pen(stroke=style.QUIET, width=style.LINK)
@@ -107,39 +104,7 @@ class _Outline:
 
 
 def short_caption(node: Node) -> Runs:
-    """Returns the name of a leaf, or just the number of its vertices."""
+    """Returns the name of a leaf, shortened, or just the number of its vertices."""
     name = leaf_name(node.graph)
-    words = plain_words(name)
+    words = plain_words(name).replace("on ", "").replace("Petersen graph", "Petersen")
     return [Run(words.split()[0])] if len(words) > 8 else name
-
-
-def lettered(tree: PlainTree, names: Names, marks: Sequence[LeafMark]) -> Scene:
-    """Returns the graph, each vertex with the letter and the tint of its leaf: every vertex stays
-    single in exactly one. The first shore is dashed."""
-    graph = tree.whole
-    look = Look(names="inside", widest=620.0)
-    for node in tree.leaves:
-        mark = marks[node.number]
-        for block in node.blocks:
-            if len(block) == 1:
-                (v,) = block
-                look.marks[v] = style.Mark(mark.tint)
-                look.texts[v] = mark.letter
-                look.titles[v] = graph.names[v]
-    scene = Scene()
-    frame = draw_graph(scene, graph, tree.root.places, look)
-    if tree.root.shore:
-        draw_shores(scene, frame, [Shore(tree.root.shore, names[tree.root.shore])])
-    return scene
-
-
-def overview(tree: PlainTree, names: Names, marks: Sequence[LeafMark]) -> Scene:
-    """Returns a tree with many leaves: the lettered graph, and the outline below it."""
-    graph = lettered(tree, names, marks)
-    line = outline(tree, names, marks, captions=True)
-    scene = Scene()
-    wide = max(graph.wide, line.wide)
-    scene.put(graph, (wide - graph.wide) / 2 - graph.box[0], -graph.box[1])
-    scene.put(line, (wide - line.wide) / 2 - line.box[0], graph.high + 40 - line.box[1])
-    return scene
-

@@ -9,7 +9,7 @@ from .comparisons import moving, node_at, shore_of, told, upper_path
 from .ears import Panels
 from .graph_scene import draw_graph
 from .hypertext import drawing, equation, joined, listed, runs, safe
-from .nodes import Names, Node, smaller
+from .nodes import Names, Node, leaf_marks, smaller
 from .outlines import outline
 from .panels import TreeStyle, node_look
 from .plain import PlainGraph
@@ -17,7 +17,6 @@ from .scene import Scene
 from .shores import BLUE, RUST, Shore, draw_shores
 from .stages import Stage
 from .style import Point
-from .tree_pictures import leaf_marks
 from .tree_places import follow_to
 
 
@@ -29,7 +28,9 @@ def ears_part(panels: Panels) -> str:
     for at, scene in enumerate(panels.scenes):
         scene.box = box
         names = panels.steps[at].told(panels.graph)
-        ears = joined([f'<span class="{c}">{safe(e)}</span>' for e, c in zip(names, ("first", "second"))])
+        ears = joined(
+            [f'<span class="{c}">{safe(e)}</span>' for e, c in zip(names, ("first", "second"))]
+        )
         kind = ("single", "double")[len(names) - 1]
         words = f"adds the {kind} ear {ears}" if at else f"with the edge {ears}"
         steps.append(_step(f"step {at}" if at else "start", words, drawing(scene, f"step {at}")))

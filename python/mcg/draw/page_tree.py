@@ -8,14 +8,15 @@ from .decompositions import MOST_LEAVES
 from .graph_scene import Look, draw_graph
 from .hypertext import braces, count, drawing, equation, joined, listed, runs, safe, table
 from .keys import Entry, add_key
-from .nodes import NamedSet, Names, Node, PlainTree, smaller
-from .outlines import lettered, outline
+from .maps import lettered
+from .nodes import LeafMark, NamedSet, Names, Node, PlainTree, leaf_marks, smaller
+from .outlines import outline
 from .panels import TreeStyle, panel
 from .plain import PlainGraph
 from .reports import Reports
 from .scene import Scene
 from .style import Point
-from .tree_pictures import LeafMark, leaf_marks, link_words
+from .tree_pictures import link_words
 
 
 def graph_part(reports: Reports, plain: PlainGraph, places: Sequence[Point]) -> str:
@@ -45,7 +46,10 @@ def analysis_rows(reports: Reports, plain: PlainGraph) -> List[Tuple[str, str]]:
         ("matching number", str(it.matching_number)),
         ("deficiency", str(it.deficiency)),
     ]
-    rows += [(f"<i>{name}</i>", among(getattr(it, name))) for name in "DAC"]
+    if it.D:
+        rows += [(f"<i>{name}</i>", among(getattr(it, name))) for name in "DAC"]
+    else:
+        rows.append(("<i>D</i>, <i>A</i>", "empty"))
     rows.append(("allowed edges", "all" if len(it.allowed) == it.size else str(len(it.allowed))))
     rows.append(("matching covered", _yes(it.covered) + _why_not(reports, plain)))
     if it.covered:
@@ -71,7 +75,9 @@ def _why_not(reports: Reports, plain: PlainGraph) -> str:
         return f": {a} and {b} are in different components"
     if it.reason == "berge":
         shown = braces(plain, [v - 1 for v in graph.numbers(it.witness)])
-        return f": <i>G</i> − <i>S</i> has more than |<i>S</i>| odd components for <i>S</i> = {shown}"
+        return (
+            f": <i>G</i> − <i>S</i> has more than |<i>S</i>| odd components for <i>S</i> = {shown}"
+        )
     if it.reason == "edge":
         a, b = (safe(plain.names[graph.number(v) - 1]) for v in it.witness[:2])
         return f": the edge from {a} to {b} is in no perfect matching"
@@ -81,7 +87,9 @@ def _why_not(reports: Reports, plain: PlainGraph) -> str:
 def _classes(reports: Reports, plain: PlainGraph) -> str:
     graph = reports.graph
     classes = reports.analysis.classes or []
-    large = sorted((graph.numbers(it) for it in classes if len(it) > 1), key=lambda it: (-len(it), it))
+    large = sorted(
+        (graph.numbers(it) for it in classes if len(it) > 1), key=lambda it: (-len(it), it)
+    )
     if not large:
         return f"{len(classes)}, all single"
     shown = ", ".join(braces(plain, [v - 1 for v in it]) for it in large)
@@ -111,7 +119,9 @@ class TreePart:
         tools = ""
         if self.tree.cuts:
             buttons = (("all", "open all"), ("none", "close all"))
-            made = " ".join(f'<button type="button" data-open="{a}">{b}</button>' for a, b in buttons)
+            made = " ".join(
+                f'<button type="button" data-open="{a}">{b}</button>' for a, b in buttons
+            )
             tools = f'<p class="tools">{made}</p>'
         told = ", ".join(f"<b>{safe(a)}</b> {safe(b)}" for a, b in self.shared.key)
         key = f'<p class="small">{told}</p>' if told else ""
@@ -124,7 +134,9 @@ class TreePart:
         """The lettered graph and the outline, whose nodes lead to the graphs."""
         graph = lettered(self.tree, self.names, self.marks)
         line = outline(self.tree, self.names, self.marks, captions=True, links=True)
-        both = drawing(graph, "the graph, its vertices lettered by leaves") + drawing(line, "the tree")
+        both = drawing(graph, "the graph, its vertices lettered by leaves") + drawing(
+            line, "the tree"
+        )
         words = "Every vertex has the letter of the leaf in which it stays single."
         return f'<p>{words} A node of the tree leads to its graph.</p><figure class="map two">{both}</figure>'
 
@@ -159,4 +171,3 @@ class TreePart:
             found += f"<details open><summary>contract: {equation(node.whole, named)}</summary>"
             found += listed([self._node(it) for it in node.below], "pair") + "</details>"
         return found + "</div>"
-

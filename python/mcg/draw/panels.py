@@ -62,7 +62,7 @@ def _mark_sides(node: Node, look: Look) -> None:
     if side is None:
         return
     squares = [sum(len(b) > 1 for b, k in zip(node.blocks, side) if k == each) for each in (0, 1)]
-    dark = 0 if squares[0] < squares[1] else 1
+    dark = 0 if squares[0] <= squares[1] else 1
     for v, k in enumerate(side):
         if k == dark:
             shape = "square" if len(node.blocks[v]) > 1 else "disc"

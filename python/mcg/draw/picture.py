@@ -53,7 +53,11 @@ class Picture:
         return self.to_svg()
 
     def __repr__(self) -> str:
-        size = f"{self.scene.wide:.0f} by {self.scene.high:.0f} points" if self.scene.marks else "empty"
+        size = (
+            f"{self.scene.wide:.0f} by {self.scene.high:.0f} points"
+            if self.scene.marks
+            else "empty"
+        )
         return f"<mcg.draw.Picture {self.title or 'without a title'}, {size}>"
 
 

@@ -50,7 +50,9 @@ class Path:
 
     def moved(self, dx: float, dy: float, scale: float) -> Path:
         by = (dx, dy)
-        steps = [(it[0], *(v * scale + by[k % 2] for k, v in enumerate(it[1:]))) for it in self.steps]
+        steps = [
+            (it[0], *(v * scale + by[k % 2] for k, v in enumerate(it[1:]))) for it in self.steps
+        ]
         return replace(self, steps=steps)
 
 
@@ -199,7 +201,9 @@ class Scene:
         """Adds a disc or the polygon of that name, of about the area of the disc."""
         points = style.corners(shape, *at, radius)
         if points is None:
-            self._grow([at[0] - radius, at[0] + radius], [at[1] - radius, at[1] + radius], pen.width / 2)
+            self._grow(
+                [at[0] - radius, at[0] + radius], [at[1] - radius, at[1] + radius], pen.width / 2
+            )
             self.marks.append(Disc(*at, radius, pen, key, name))
         else:
             self.polygon(points, pen, key, name, shape)

@@ -68,7 +68,10 @@ def draw_shores(scene: Scene, frame: Frame, shores: Sequence[Shore]) -> List[Arr
     """Draws a curve round each shore with its name, and returns all loops. Where the curve goes
     round the other side, the name gets a bar."""
     depth = [sum(other.vertices < it.vertices for other in shores) for it in shores]
-    depth = [d + sum(o.vertices == it.vertices for o in shores[:k]) for k, (d, it) in enumerate(zip(depth, shores))]
+    depth = [
+        d + sum(o.vertices == it.vertices for o in shores[:k])
+        for k, (d, it) in enumerate(zip(depth, shores))
+    ]
     curves = [around(frame, it.vertices, d) for it, d in zip(shores, depth)]
     for curve, shore in zip(curves, shores):
         for loop in curve.loops:
@@ -85,7 +88,9 @@ class _NamePlace:
     """Finds a place for the name of a shore beside its curve, where it touches nothing: high and to
     the side first; failing that at the border, with a thin line to the curve."""
 
-    def __init__(self, frame: Frame, loops: List[Array], every: List[Array], taken: List[Box]) -> None:
+    def __init__(
+        self, frame: Frame, loops: List[Array], every: List[Array], taken: List[Box]
+    ) -> None:
         self.frame, self.loops, self.taken = frame, loops, taken
         self.lines: List[Segment] = [s for line in frame.lines().values() for s in segments(line)]
         for loop in every:
@@ -137,11 +142,20 @@ class _NamePlace:
             for loop in self.loops:
                 end = loop[int(np.hypot(loop[:, 0] - at[0], loop[:, 1] - at[1]).argmin())]
                 way = end - np.array(at)
-                start = np.array(at) + way * min(1.0, 0.62 * max(wide, high) / max(math.hypot(*way), 1e-6))
-                is_near = segment_distance(points, start[None], end[None]).min() < self.frame.radius + 2
+                start = np.array(at) + way * min(
+                    1.0, 0.62 * max(wide, high) / max(math.hypot(*way), 1e-6)
+                )
+                is_near = (
+                    segment_distance(points, start[None], end[None]).min() < self.frame.radius + 2
+                )
                 rank = math.dist(start, end) + (500 if is_near else 0)
                 if best is None or rank < best[0] - 1e-9:
-                    best = rank, at, (float(start[0]), float(start[1])), (float(end[0]), float(end[1]))
+                    best = (
+                        rank,
+                        at,
+                        (float(start[0]), float(start[1])),
+                        (float(end[0]), float(end[1])),
+                    )
         return best[1:] if best else None
 
     @staticmethod

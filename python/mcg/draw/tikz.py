@@ -54,7 +54,9 @@ class _Writer:
             wide = f"line width={pen.width * self.scale:.2f}pt"
             found.append(f"draw={self.colour(pen.stroke)},{wide}")
             if pen.dash:
-                parts = (f"{('on', 'off')[k % 2]} {d * self.scale:.2f}pt" for k, d in enumerate(pen.dash))
+                parts = (
+                    f"{('on', 'off')[k % 2]} {d * self.scale:.2f}pt" for k, d in enumerate(pen.dash)
+                )
                 found.append("dash pattern=" + " ".join(parts))
         return found
 

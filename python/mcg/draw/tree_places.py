@@ -27,7 +27,9 @@ def arrange(tree: PlainTree, places: Optional[Sequence[Point]] = None) -> None:
         if node.places:
             continue
         if node.above is None:
-            found = np.array(places) if places is not None else place(node.graph, node.inner_shores())
+            found = (
+                np.array(places) if places is not None else place(node.graph, node.inner_shores())
+            )
         else:
             found = _followed(node, node.above)
         node.places = as_points(found)
@@ -54,7 +56,9 @@ def _target(node: Node, above: Node) -> Array:
             found.append(before[block])
         else:
             parts = [at for other, at in before.items() if other <= block]
-            found.append((sum(x for x, _ in parts) / len(parts), sum(y for _, y in parts) / len(parts)))
+            found.append(
+                (sum(x for x, _ in parts) / len(parts), sum(y for _, y in parts) / len(parts))
+            )
     return np.array(found)
 
 
@@ -133,4 +137,3 @@ def _unit(p: Array) -> Array:
     q = p - p.mean(0)
     found: Array = q / max(math.sqrt(float((q**2).sum(1).mean())), 1e-9)
     return found
-

@@ -117,7 +117,11 @@ def _near_a_symmetric_one(graph: PlainGraph) -> Optional[Array]:
         if any(left):
             continue
         rest = PlainGraph(graph.names, [it for it in graph.pairs if it not in chords])
-        if len(rest.components()) == 1 and len(set(refined(rest))) == 1 and turns_and_mirrors(rest)[0]:
+        if (
+            len(rest.components()) == 1
+            and len(set(refined(rest))) == 1
+            and turns_and_mirrors(rest)[0]
+        ):
             p = place(rest)
             turns, mirrors = symmetries(p, rest.pairs)
             if turns >= 3 and _keeps_off(p, graph.pairs):

@@ -246,9 +246,11 @@ def quick_cost(p: Array, pairs: Pairs) -> float:
     """Returns a rough cost, fast, to choose the drawings that are worth a closer look."""
     size = lengths(p, pairs)
     near = float(apart(p).min()) / max(float(size.mean()), TINY)
-    return crossings(p, pairs) * 12 / max(12, len(pairs)) + 2.5 * float(
-        size.std() / max(float(size.mean()), TINY)
-    ) + 8.0 * max(0.0, 0.4 - near)
+    return (
+        crossings(p, pairs) * 12 / max(12, len(pairs))
+        + 2.5 * float(size.std() / max(float(size.mean()), TINY))
+        + 8.0 * max(0.0, 0.4 - near)
+    )
 
 
 def cost(p: Array, pairs: Pairs, shores: Sequence[Iterable[int]] = ()) -> float:

@@ -247,4 +247,3 @@ def opened(p: Array, pairs: Pairs) -> Array:
 def _unevenness(p: Array, pairs: Pairs) -> float:
     size = lengths(p, pairs)
     return 1 / max(resolution(p, pairs), 1e-6) + float(size.std() / size.mean())
-

@@ -129,7 +129,9 @@ class _Forces:
         """The nearest place on each edge for each vertex, the way from there, and how far it is."""
         x, y, ax, ay, dx, dy, square = given
         wx, wy = x[:, :, None] - ax[:, None], y[:, :, None] - ay[:, None]
-        t = np.minimum(np.maximum((wx * dx[:, None] + wy * dy[:, None]) / square[:, None], 0.0), 1.0)
+        t = np.minimum(
+            np.maximum((wx * dx[:, None] + wy * dy[:, None]) / square[:, None], 0.0), 1.0
+        )
         wx -= t * dx[:, None]
         wy -= t * dy[:, None]
         return t, wx, wy, np.sqrt(wx * wx + wy * wy) + self.own

@@ -85,7 +85,9 @@ def _distinct(drawings: List[Array], pairs: Pairs) -> List[Array]:
     kinds = {}
     for p in drawings:
         size = np.sort(lengths(p, pairs))
-        kinds.setdefault((crossings(p, pairs), tuple(np.round(size[:: max(1, len(size) // 8)], 1))), p)
+        kinds.setdefault(
+            (crossings(p, pairs), tuple(np.round(size[:: max(1, len(size) // 8)], 1))), p
+        )
     return list(kinds.values())
 
 
@@ -97,7 +99,9 @@ def circles(graph: PlainGraph, d: Array) -> Array:
     angle = {root: 0.0}
 
     def mean(v: int) -> float:
-        z = sum(complex(math.cos(angle[w]), math.sin(angle[w])) for w in graph.near[v] if w in angle)
+        z = sum(
+            complex(math.cos(angle[w]), math.sin(angle[w])) for w in graph.near[v] if w in angle
+        )
         return round(math.atan2(z.imag, z.real), 9) if abs(z) > 1e-6 else 0.0
 
     for k in range(1, int(d[root].max()) + 1):
@@ -164,7 +168,9 @@ def _two_rows(graph: PlainGraph, side: Sequence[int], seed: int) -> Array:
     for _ in range(12):
         for k in (1, 0):
             x = {v: i - len(orders[1 - k]) / 2 for i, v in enumerate(orders[1 - k])}
-            mean = {v: sum(x[w] for w in graph.near[v]) / max(1, len(graph.near[v])) for v in orders[k]}
+            mean = {
+                v: sum(x[w] for w in graph.near[v]) / max(1, len(graph.near[v])) for v in orders[k]
+            }
             orders[k].sort(key=lambda v: (round(mean[v], 9), v))
     p, widest = np.zeros((graph.order, 2)), max(map(len, orders))
     for k, row in enumerate(orders):

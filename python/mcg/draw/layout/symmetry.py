@@ -74,7 +74,9 @@ def refined(graph: PlainGraph) -> List[int]:
     """Returns colours of the vertices: two of one colour have as many neighbours of each colour."""
     colour = [len(near) for near in graph.near]
     for _ in range(graph.order):
-        keys = [(colour[v], tuple(sorted(colour[w] for w in near))) for v, near in enumerate(graph.near)]
+        keys = [
+            (colour[v], tuple(sorted(colour[w] for w in near))) for v, near in enumerate(graph.near)
+        ]
         names = {key: k for k, key in enumerate(sorted(set(keys)))}
         fresh = [names[key] for key in keys]
         if len(set(fresh)) == len(set(colour)):
@@ -187,4 +189,3 @@ def snapped(p: Array, k: int) -> List[Array]:
         out = np.abs(z) * np.exp(1j * turned * half)
         found.append(np.stack([out.real, out.imag], 1))
     return found
-
