@@ -18,6 +18,7 @@ text in graph6 (see `Graph`), with at most 128 vertices and 2,048 edges.
 One graph: `analyse`, `decompose`, `check`, `ears`, `check_ears`, `compare`, `script`, `replay`.
 Lists of graphs, streamed through one process: `kinds`, `leaves`, `elementary`,
 `select`.
+Pictures: the module `draw`, and the method `draw` of `Decomposition`, `Ears` and `Comparison`.
 Texts of the formats of Mcg: the methods `from_text` and `to_text` of `Graph`, `Decomposition`,
 `Picks`, `Ears` and `Moves`, and `from_text` of `Analysis`, `TreeCheck`, `EarsCheck`, `Comparison`
 and `Replay`.
@@ -25,6 +26,7 @@ and `Replay`.
 The package decides nothing about graphs; what is decided is decided by the programs. The one
 exception is `mcg.verify`, a second opinion that checks reports without them.
 """
+from . import draw
 from .analysis import Analysis, analyse
 from .comparisons import Comparison, Replay, compare, replay, script
 from .decompositions import Picks, Refusal, TreeCheck, check, decompose
@@ -81,6 +83,7 @@ __all__ = [
     "check_ears",
     "compare",
     "decompose",
+    "draw",
     "ears",
     "elementary",
     "kinds",

@@ -3,21 +3,25 @@ from __future__ import annotations
 
 import re
 from dataclasses import dataclass
-from typing import Any, Dict, Iterable, List, Optional, Tuple
+from typing import TYPE_CHECKING, Any, Dict, Iterable, List, Optional, Tuple
 
 from .analysis import demand_covered, verdict
 from .decompositions import Refusal, refusal
 from .errors import NotADerivation
 from .graphs import Graph, GraphLike
 from .moves import Move, Moves, as_moves
+from .pictures import Drawable
 from .programs import reported, run, understood
 from .trees import Block, Decomposition, TreeLike, tree_text
+
+if TYPE_CHECKING:
+    from .draw import Picture
 
 Pairing = Tuple[int, int, Dict[Block, Block]]
 
 
 @dataclass(frozen=True)
-class Comparison:
+class Comparison(Drawable):
     """How the leaves of two decompositions of one graph correspond.
 
     `pairs` has for each leaf of the first its place, the place of its partner in the second, both
@@ -33,6 +37,19 @@ class Comparison:
     second: Decomposition
     pairs: List[Pairing]
     moves: Moves
+
+    def draw(self, **options: Any) -> Picture:
+        """Returns the picture: both trees, matched leaves alike, and an arrow for each move. The
+        options are those of `mcg.draw.draw_comparison`: `pos`, `labels`, `title`, `ax`."""
+        from .draw.comparisons import draw_comparison
+
+        return draw_comparison(self, **options)
+
+    def to_dot(self) -> str:
+        """Returns both trees in outline for Graphviz's `dot`, partners joined by dashed lines."""
+        from .draw.comparisons import comparison_dot
+
+        return comparison_dot(self)
 
     @classmethod
     def from_text(cls, text: str, graph: GraphLike, first: TreeLike, second: TreeLike) -> Comparison:

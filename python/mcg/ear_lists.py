@@ -3,14 +3,18 @@ from __future__ import annotations
 
 import re
 from dataclasses import dataclass
-from typing import Any, List, Optional, Tuple
+from typing import TYPE_CHECKING, Any, List, Optional, Tuple
 
 from . import texts
 from .analysis import demand_covered, verdict
 from .errors import BadText
 from .graphs import Graph, GraphLike
+from .pictures import Drawable
 from .programs import reported, run, understood
 from .sources import Edge, Label
+
+if TYPE_CHECKING:
+    from .draw import Picture
 
 # Why a step of an ear decomposition is refused.
 WHY = {
@@ -41,7 +45,7 @@ class Ear:
 
 
 @dataclass(frozen=True)
-class Ears:
+class Ears(Drawable):
     """An ear decomposition: the edge of the first stage, and for each step its one or two ears.
 
     Source: Lovász and Plummer, "Matching Theory" (1986), section 5.4; every matching covered graph
@@ -60,6 +64,19 @@ class Ears:
     def double(self) -> int:
         """The number of steps with two ears."""
         return sum(len(step) == 2 for step in self.steps)
+
+    def draw(self, graph: Optional[GraphLike] = None, **options: Any) -> Picture:
+        """Returns the picture: a panel for the first edge and for each step. The options are those
+        of `mcg.draw.draw_ears`: `pos`, `columns`, `labels`, `title`, `ax`."""
+        from .draw.ears import draw_ears
+
+        return draw_ears(self, graph, **options)
+
+    def to_dot(self) -> str:
+        """Returns the graph for Graphviz, each edge with the number of its step."""
+        from .draw.ears import ears_dot
+
+        return ears_dot(self)
 
     def to_text(self, graph: GraphLike) -> str:
         """Returns the text in the ear format for this graph. Raises `BadText` for an ear that is
