@@ -27,7 +27,7 @@ def contours(xs: Array, ys: Array, value: Array) -> List[Array]:
 
 
 def _cut(
-    xs: Array, ys: Array, value: Array, above: Array, i: int, j: int
+    xs: Array, ys: Array, value: Array, above: Flags, i: int, j: int
 ) -> List[Tuple[_Node, Tuple[float, float]]]:
     """Where the line meets the sides of one square, those that belong together one after the
     other."""

@@ -1,13 +1,14 @@
 """`Ears.draw()`: a panel for the first edge, and one for each step."""
 from __future__ import annotations
 
+from dataclasses import replace
 from typing import Any, List, Mapping, NamedTuple, Optional, Sequence, Set
 
 from ..ear_lists import Ears
 from ..graphs import Graph, GraphLike
 from . import style
 from .dot import quoted
-from .graph_scene import Frame, Look, draw_frame, frame_of
+from .graph_scene import Look, draw_frame, frame_of
 from .graphs import Positions, named, places_of
 from .keys import Entry, add_key
 from .names import Key, short_names
@@ -91,7 +92,7 @@ class Panels:
 
     def _panel(self, at: int) -> Scene:
         scene = Scene()
-        frame = Frame(**{**self.frame.__dict__, "prefix": f"s{at}_"})
+        frame = replace(self.frame, prefix=f"s{at}_")
         draw_frame(scene, frame, step_look(self.graph, self.steps, at, self.short))
         return scene
 

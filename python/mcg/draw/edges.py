@@ -53,7 +53,8 @@ def _bundle(p: Point, q: Point, count: int, foreign: List[Point], radius: float)
     long = math.hypot(q[0] - p[0], q[1] - p[1])
     gap = min(style.ARC_GAP, 0.22 * long, 2.4 * radius / max(1, count - 1) + 3)
     beside = [_beside(it, p, q, long) for it in foreign]
-    best, most = [], -math.inf
+    best: List[Steps] = []
+    most = -math.inf
     for shift in _SHIFTS:
         offs = [(k - (count - 1) / 2) * gap + shift for k in range(count)]
         if best and (abs(shift) > 0.35 * long or any(_passes(off, beside) for off in offs)):

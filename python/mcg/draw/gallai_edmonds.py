@@ -61,4 +61,5 @@ def _component(graph: PlainGraph, part: List[int], A: AbstractSet[int]) -> Array
     if tied and len(part) > 1:
         turns = [q @ turned_by(math.pi * k / 6) for k in range(12)]
         q = max(turns, key=lambda r: round(float(r[tied, 1].sum()), 6))
-    return q - np.array([q[:, 0].min(), q[:, 1].max()])
+    moved: Array = q - np.array([q[:, 0].min(), q[:, 1].max()])
+    return moved

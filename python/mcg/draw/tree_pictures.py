@@ -1,14 +1,13 @@
 """The tree of a decomposition as a picture: the graph at each node, children below their parent."""
 from __future__ import annotations
 
-from typing import Dict, List, NamedTuple, Optional, Sequence, Tuple
+from typing import Dict, List, NamedTuple, Sequence, Tuple
 
 from . import style
 from .graph_scene import Frame
-from .names import Key
-from .nodes import NamedSet, Names, Node, PlainTree, Set, smaller
+from .nodes import LeafMark, Names, Node, PlainTree
 from .panels import TreeStyle, panel
-from .scene import Pen, Run, Scene, words_width
+from .scene import Pen, Run, Scene
 
 _GAP, _DOWN = 26.0, 46.0  # between panels side by side, and between levels
 _LINK = Pen(stroke=style.QUIET, width=style.LINK)

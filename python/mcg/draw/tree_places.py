@@ -2,7 +2,7 @@
 from __future__ import annotations
 
 import math
-from typing import Dict, FrozenSet, List, Optional, Sequence
+from typing import Dict, FrozenSet, List, Optional, Sequence, Tuple
 
 import numpy as np
 
@@ -90,7 +90,7 @@ def _best_square(node: Node, above: Node, target: Array) -> Optional[Array]:
     pairs, known = node.graph.pairs, set(above.blocks)
     new = next(k for k, block in enumerate(node.blocks) if block not in known)
     gone = [at for block, at in zip(above.blocks, above.places) if block <= node.blocks[new]]
-    options = []
+    options: List[Tuple[int, int, Array]] = []
     for at in [tuple(target[new]), *gone]:
         q = target.copy()
         q[new] = at

@@ -20,9 +20,8 @@ def ends_of(pairs: Pairs) -> Integers:
 
 def cross(o: Array, a: Array, b: Array) -> Array:
     """Returns twice the area of the triangles o, a, b, positive if they turn to the left."""
-    found: Array = (a[..., 0] - o[..., 0]) * (b[..., 1] - o[..., 1])
-    found = found - (a[..., 1] - o[..., 1]) * (b[..., 0] - o[..., 0])
-    return found
+    one = np.multiply(a[..., 0] - o[..., 0], b[..., 1] - o[..., 1])
+    return np.subtract(one, np.multiply(a[..., 1] - o[..., 1], b[..., 0] - o[..., 0]))
 
 
 def as_points(p: Any) -> List[Tuple[float, float]]:

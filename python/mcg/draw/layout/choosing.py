@@ -27,7 +27,7 @@ def place(graph: PlainGraph, shores: Shores = ()) -> Array:
     least costly of several drawings is chosen; what makes up the cost is in `measures`. The simple
     graphs placed last are remembered.
     """
-    known = _placed(graph.order, tuple(graph.pairs), tuple(map(frozenset, shores)))
+    known = _placed(graph.order, tuple(graph.pairs), tuple(frozenset(it) for it in shores))
     return known.copy()
 
 
@@ -141,16 +141,13 @@ def upright(p: Array, pairs: Pairs) -> Array:
     """Returns the drawing turned: a mirror axis upright if there is one, else an outer edge level;
     then wide rather than high, flat at the bottom, low numbers at the top left."""
     q = p - p.mean(0)
-    best = None
-    for turn in _turns(q, pairs):
-        for extra in (0.0, math.pi):
-            for flip in (1, -1):
-                r = (q @ turned_by(turn + extra)) * np.array([flip, 1])
-                key = _stance(r, pairs)
-                if best is None or key < best[0]:
-                    best = key, r
-    assert best
-    return best[1]
+    turned: List[Array] = [
+        (q @ turned_by(turn + extra)) * np.array([flip, 1])
+        for turn in _turns(q, pairs)
+        for extra in (0.0, math.pi)
+        for flip in (1, -1)
+    ]
+    return min(turned, key=lambda r: _stance(r, pairs))
 
 
 def _turns(q: Array, pairs: Pairs) -> List[float]:

@@ -205,7 +205,7 @@ def knots(p: Array, pairs: Pairs, matrix: Flags) -> int:
 
 def hull(points: Array) -> Array:
     """Returns the corners of the convex hull, counterclockwise."""
-    ordered = sorted(map(tuple, points.tolist()))
+    ordered: List[Tuple[float, ...]] = sorted((float(x), float(y)) for x, y in points)
     if len(ordered) < 3:
         return np.array(ordered)
     found: List[Tuple[float, ...]] = []

@@ -3,7 +3,7 @@ from __future__ import annotations
 
 import math
 import random
-from typing import Any, Dict, FrozenSet, Iterable, List, Optional, Sequence, Tuple
+from typing import Any, Dict, FrozenSet, Iterable, List, Sequence, Tuple
 
 import networkx as nx
 import numpy as np
@@ -90,15 +90,19 @@ def plane_drawings(
 
 def _embeddings(graph: PlainGraph, first: Any) -> List[Any]:
     """Different embeddings, those with the longest faces first: these leave the most room."""
-    found: Dict[object, Any] = {frozenset(map(frozenset, faces_of(first))): first}
+    found: Dict[FrozenSet[FrozenSet[int]], Any] = {_sets(faces_of(first)): first}
     for seed in range(1, _SEEDS if graph.order <= 30 else _SEEDS // 2):
         plane = embedding(graph, seed)
-        found.setdefault(frozenset(map(frozenset, faces_of(plane))), plane)
+        found.setdefault(_sets(faces_of(plane)), plane)
 
-    def sizes(faces: Any) -> List[int]:
+    def sizes(faces: FrozenSet[FrozenSet[int]]) -> List[int]:
         return sorted((-len(face) for face in faces))
 
     return [found[faces] for faces in sorted(found, key=sizes)[:_EMBEDDINGS]]
+
+
+def _sets(faces: List[Face]) -> FrozenSet[FrozenSet[int]]:
+    return frozenset(frozenset(face) for face in faces)
 
 
 def _of_embedding(graph: PlainGraph, plane: Any, is_firm: bool) -> List[Tuple[int, Array]]:

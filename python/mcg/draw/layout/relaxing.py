@@ -120,9 +120,9 @@ class _Forces:
         lack *= lack * ((t > 0) & (t < 1))
         du, dv = x[:, :, None] - x[:, None], y[:, :, None] - y[:, None]
         apart = np.sqrt(du * du + dv * dv)
-        strong = np.where(apart < 3.0, 1.0 / np.maximum(apart, 0.05) ** 3, 0.0)
-        along_x = self._along(strong * du, lack * wx, t, dx * pull)
-        along_y = self._along(strong * dv, lack * wy, t, dy * pull)
+        strong: Array = np.where(apart < 3.0, 1.0 / np.maximum(apart, 0.05) ** 3, 0.0)
+        along_x = self._along(np.multiply(strong, du), lack * wx, t, dx * pull)
+        along_y = self._along(np.multiply(strong, dv), lack * wy, t, dy * pull)
         return np.stack([along_x, along_y], 2), self._bound(far, heat)
 
     def _from_edges(self, *given: Array) -> Tuple[Array, Array, Array, Array]:

@@ -2,12 +2,12 @@
 from __future__ import annotations
 
 import math
-from typing import Iterable, List, Sequence
+from typing import Dict, Iterable, List, Sequence
 
 import numpy as np
 
 from ..plain import PlainGraph
-from .arrays import Array, Pairs
+from .arrays import Array, Integers, Pairs
 from .measures import cost, crossings, lengths, quick_cost, scaled
 from .relaxing import distances, majorize, relax_all
 from .symmetry import coprime, mirrored, one_circle, rings, snapped, turns_and_mirrors
@@ -82,7 +82,7 @@ def symmetric(graph: PlainGraph, d: Array) -> List[Array]:
 
 def _distinct(drawings: List[Array], pairs: Pairs) -> List[Array]:
     """One of each drawing that comes twice, up to where its vertices are."""
-    kinds = {}
+    kinds: Dict[object, Array] = {}
     for p in drawings:
         size = np.sort(lengths(p, pairs))
         kinds.setdefault(
@@ -134,7 +134,7 @@ def round_table(graph: PlainGraph) -> Array:
     return p
 
 
-def _exchanged(seats: Array, near: Array) -> Array:
+def _exchanged(seats: Integers, near: Array) -> Integers:
     """The seats with each two neighbours exchanged if that makes the chords shorter."""
     n = len(seats)
     seat = np.zeros(n, dtype=np.int64)
@@ -150,7 +150,7 @@ def _exchanged(seats: Array, near: Array) -> Array:
     return seats
 
 
-def _chords(seat: Array, near: Array, v: int) -> float:
+def _chords(seat: Integers, near: Array, v: int) -> float:
     return float((near[v] * np.abs(np.sin(math.pi * (seat - seat[v]) / len(seat)))).sum())
 
 
