@@ -172,7 +172,8 @@ def evened(p: Array, pairs: Pairs) -> Array:
     if axes:
         angle, images = min(axes, key=lambda it: round(it[0], 6))
         q = (q + q[images] @ mirror_of(angle).T) / 2
-    return q if crossings(q, pairs) <= crossings(p, pairs) else p
+    is_worse = crossings(q, pairs) > crossings(p, pairs)
+    return p if is_worse or resolution(q, pairs) < 0.9 * resolution(p, pairs) else q
 
 
 def resolution(p: Array, pairs: Pairs) -> float:

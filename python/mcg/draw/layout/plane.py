@@ -18,6 +18,7 @@ _SEEDS = 24  # by which different embeddings are looked for
 _EMBEDDINGS = 4  # tried of a graph with several
 _OUTER_FACES = 12  # tried of each embedding
 _ROUNDS, _FEW_ROUNDS = 24, 8
+_CROWDED = 0.3  # the room below which other starts are tried
 
 Face = List[int]
 
@@ -82,10 +83,17 @@ def plane_drawings(
         reaches = [1.1, 2.0]
         both = [p for p in found for _ in reaches]
         found += relax_all(both, graph.pairs, 250, reaches * len(found))
-    elif resolution(found[0], graph.pairs) < 0.3:
-        # a large triangulation: its outer triangle leaves too little room in the middle
-        found += relax_all(found[:2], graph.pairs, 400, [1.6, 1.6][: len(found)])
+    if max(resolution(p, graph.pairs) for p in found) < _CROWDED:
+        # deep nesting leaves too little room in the middle: from a grid, vertices have more
+        some = [*found[:2], _on_grid(first, graph), _on_grid(first, graph)]
+        found += relax_all(some, graph.pairs, 500, [1.6, 1.6, 1.1, 2.0][-len(some) :])
     return found
+
+
+def _on_grid(plane: Any, graph: PlainGraph) -> Array:
+    """The drawing on a grid by Chrobak and Payne, in which no two vertices are very near."""
+    places = nx.combinatorial_embedding_to_pos(plane)
+    return np.array([places[v] for v in range(graph.order)], dtype=float)
 
 
 def _embeddings(graph: PlainGraph, first: Any) -> List[Any]:
