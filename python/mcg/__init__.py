@@ -22,6 +22,7 @@ One graph: `analyse`, `decompose`, `check`, `ears`, `check_ears`, `compare`, `sc
 Lists of graphs, streamed: `kinds`, `leaves`, `elementary`, `select`.
 Each answer has a short `repr`, a text for `print`, and `to_dict` with `from_dict` (see `mcg.dicts`);
 it can be pickled.
+Pictures: the module `draw`, and the method `draw` of `Decomposition`, `Ears` and `Comparison`.
 Texts of the formats of Mcg: the methods `from_text` and `to_text` of `Graph`, `Decomposition`,
 `Picks`, `Ears` and `Moves`, and `from_text` of `Analysis`, `TreeCheck`, `EarsCheck`, `Comparison`
 and `Replay`.
@@ -34,6 +35,7 @@ Vertices and edges are in your own labels everywhere. Where something has a numb
 The package decides nothing about graphs; what is decided is decided by the programs. The one
 exception is `mcg.verify`, a second opinion that checks reports without them.
 """
+from . import draw
 from .analysis import Analysis, analyse
 from .comparisons import Comparison, compare, script
 from .decompositions import Picks, Refusal, TreeCheck, check, decompose
@@ -100,6 +102,7 @@ __all__ = [
     "check_ears",
     "compare",
     "decompose",
+    "draw",
     "ears",
     "elementary",
     "kinds",

@@ -3,7 +3,7 @@ from __future__ import annotations
 
 import re
 from dataclasses import dataclass
-from typing import Any, Dict, Iterator, List, Mapping, Tuple
+from typing import TYPE_CHECKING, Any, Dict, Iterator, List, Mapping, Tuple
 
 from . import dicts, report_texts
 from .analysis import demand_covered
@@ -12,15 +12,19 @@ from .errors import NotADerivation
 from .graphs import Graph, GraphLike
 from .labels import counted, shown
 from .moves import Moves
+from .pictures import Drawable
 from .programs import reported, run, understood
 from .tree_nodes import leaf_count
 from .trees import Block, Decomposition, TreeLike, as_tree, tree_text
+
+if TYPE_CHECKING:
+    from .draw import Picture
 
 Pairing = Tuple[int, int, Dict[Block, Block]]
 
 
 @dataclass(frozen=True, repr=False)
-class Comparison:
+class Comparison(Drawable):
     """How the leaves of two decompositions of one graph correspond.
 
     `pairs` has for each leaf of the first its place, the place of its partner in the second, both
@@ -109,6 +113,19 @@ class Comparison:
             made = cls(first, second, pairs, moves)
         dicts.demand_same(made.to_dict(), given)
         return made
+
+    def draw(self, **options: Any) -> Picture:
+        """Returns the picture: both trees, matched leaves alike, and an arrow for each move. The
+        options are those of `mcg.draw.draw_comparison`: `pos`, `labels`, `title`, `ax`."""
+        from .draw.comparisons import draw_comparison
+
+        return draw_comparison(self, **options)
+
+    def to_dot(self) -> str:
+        """Returns both trees in outline for Graphviz's `dot`, partners joined by dashed lines."""
+        from .draw.comparisons import comparison_dot
+
+        return comparison_dot(self)
 
     @classmethod
     def from_text(cls, text: str, graph: GraphLike, first: TreeLike, second: TreeLike) -> Comparison:

@@ -2,15 +2,20 @@
 from __future__ import annotations
 
 from dataclasses import dataclass, field
-from typing import Any, Dict, Iterator, List, Mapping, Optional, Tuple
+from typing import TYPE_CHECKING, Any, Dict, Iterator, List, Mapping, Optional, Tuple
 
 from . import dicts, report_texts, texts
 from .analysis import demand_covered
 from .errors import BadText
 from .graphs import Graph, GraphLike
 from .labels import Label, counted, shown
+from .pictures import Drawable
 from .programs import reported, run
 from .sources import Edge
+
+if TYPE_CHECKING:
+    from .draw import Picture
+
 
 @dataclass(frozen=True, repr=False)
 class Ear:
@@ -36,7 +41,7 @@ class Ear:
 
 
 @dataclass(frozen=True, repr=False)
-class Ears:
+class Ears(Drawable):
     """An ear decomposition: the edge of the first stage, and for each step its one or two ears.
 
     Its length is the number of steps, and iterating yields them. `graph` is the `Graph` that `ears`
@@ -113,6 +118,19 @@ class Ears:
             made = cls(numbered.edge(given["start"]), steps, numbered)
         dicts.demand_same(made.to_dict(), given)
         return made
+
+    def draw(self, graph: Optional[GraphLike] = None, **options: Any) -> Picture:
+        """Returns the picture: a panel for the first edge and for each step. The options are those
+        of `mcg.draw.draw_ears`: `pos`, `columns`, `labels`, `title`, `ax`."""
+        from .draw.ears import draw_ears
+
+        return draw_ears(self, graph, **options)
+
+    def to_dot(self) -> str:
+        """Returns the graph for Graphviz, each edge with the number of its step."""
+        from .draw.ears import ears_dot
+
+        return ears_dot(self)
 
     def to_text(self, graph: GraphLike) -> str:
         """Returns the text in the ear format for this graph. Raises `BadText` for an ear that is

@@ -1,21 +1,25 @@
 """Trees of cuts, and their text: tight cut decompositions in the caller's labels."""
 from __future__ import annotations
 
-from typing import Any, Dict, FrozenSet, Iterator, List, Mapping, Optional, Sequence, Tuple, Union
+from typing import TYPE_CHECKING, Any, Dict, FrozenSet, Iterator, List, Mapping, Optional, Sequence, Tuple, Union
 
 from . import dicts, texts
 from .errors import LIMIT, BadText
 from .graphs import Graph, GraphLike
 from .labels import VertexSet, brief, counted, shown
+from .pictures import Drawable
 from .sources import Edge
 from .tree_nodes import Block, Cut, Leaf, Tree, sides
 
 __all__ = ["Block", "Cut", "Decomposition", "Leaf", "Tree", "TreeLike", "as_tree", "node_place", "sides", "tree_text"]
 
+if TYPE_CHECKING:
+    from .draw import Picture
+
 MOST_NODES = 127
 
 
-class Decomposition:
+class Decomposition(Drawable):
     """A tree of cuts of a graph with all its leaves.
 
     `Decomposition(G, tree)` computes the blocks and the edges of the leaves; it does not ask
@@ -92,6 +96,19 @@ class Decomposition:
         """Returns the block of a leaf whose highest-numbered vertex has this number."""
         named = (it for it in self.leaves[leaf].blocks if max(map(self.graph.number, it)) == name)
         return next(named)
+
+    def draw(self, **options: Any) -> Picture:
+        """Returns the picture of the tree: the graph at each node with its shore. The options are
+        those of `mcg.draw.draw_decomposition`: `pos`, `graphs`, `labels`, `title`, `ax`."""
+        from .draw.decompositions import draw_decomposition
+
+        return draw_decomposition(self, **options)
+
+    def to_dot(self) -> str:
+        """Returns the tree for Graphviz's `dot`, a cluster with the graph at each node."""
+        from .draw.decompositions import decomposition_dot
+
+        return decomposition_dot(self)
 
     def to_text(self) -> str:
         """Returns the text in the derivation format. It has numbers and not labels."""
