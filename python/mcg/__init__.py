@@ -16,17 +16,23 @@ A graph is a graph of NetworkX or of Sage, a pair (vertices, edges), an iterable
 text in graph6 (see `Graph`), with at most 128 vertices and 2,048 edges.
 
 One graph: `analyse`, `decompose`, `check`, `ears`, `check_ears`, `compare`, `script`, `replay`.
+Edges of matching covered graphs: `removable`, `b_invariant`, `removable_doubletons`, `thin`.
+Cuts and new graphs: `is_tight`, `contract`, `retract`, `bisubdivide`, `splice`, `is_petersen`.
 Lists of graphs, streamed through one process: `kinds`, `leaves`, `elementary`,
 `select`.
 Texts of the formats of Mcg: the methods `from_text` and `to_text` of `Graph`, `Decomposition`,
 `Picks`, `Ears` and `Moves`, and `from_text` of `Analysis`, `TreeCheck`, `EarsCheck`, `Comparison`
 and `Replay`.
 
-The package decides nothing about graphs; what is decided is decided by the programs. The one
-exception is `mcg.verify`, a second opinion that checks reports without them.
+What is decided about graphs is decided by the programs, and each docstring says by which command.
+The package itself only does what needs no theorem: it counts degrees, contracts and splices, and
+recognises the Petersen graph. The one exception is `mcg.verify`, a second opinion that checks
+reports without the programs.
 """
 from .analysis import Analysis, analyse
+from .bricks import b_invariant, removable, removable_doubletons, thin
 from .comparisons import Comparison, compare, script
+from .contractions import Contraction, Contractions, contract, retract
 from .decompositions import Picks, Refusal, TreeCheck, check, decompose
 from .ear_checks import EarsCheck, check_ears
 from .ear_lists import Ear, Ears, ears
@@ -46,7 +52,10 @@ from .graphs import Graph
 from .list_answers import Kind, ListComponent, ListLeaf
 from .lists import elementary, kinds, leaves, select
 from .moves import Moves, Rotate, Switch
+from .petersen import is_petersen
 from .replays import Replay, replay
+from .splices import bisubdivide, splice
+from .tightness import Tightness, is_tight
 from .trees import Cut, Decomposition, Leaf
 
 __all__ = [
@@ -55,6 +64,8 @@ __all__ = [
     "BadInput",
     "BadText",
     "Comparison",
+    "Contraction",
+    "Contractions",
     "Cut",
     "Decomposition",
     "Ear",
@@ -77,18 +88,29 @@ __all__ = [
     "Replay",
     "Rotate",
     "Switch",
+    "Tightness",
     "TooLarge",
     "TreeCheck",
     "analyse",
+    "b_invariant",
+    "bisubdivide",
     "check",
     "check_ears",
     "compare",
+    "contract",
     "decompose",
     "ears",
     "elementary",
+    "is_petersen",
+    "is_tight",
     "kinds",
     "leaves",
+    "removable",
+    "removable_doubletons",
     "replay",
+    "retract",
     "script",
     "select",
+    "splice",
+    "thin",
 ]
