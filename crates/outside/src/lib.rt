@@ -17,10 +17,12 @@
 
 mod count_sink;
 mod dir_shelf;
+mod edge;
 mod emitting;
 mod explain;
 mod given;
 mod in_source;
+mod inlet;
 mod keeping_shelf;
 mod limits;
 mod line_sink;
@@ -32,6 +34,7 @@ mod out_sink;
 mod outlet;
 mod planned;
 mod printed;
+mod reasons;
 mod retries;
 mod shelf;
 mod sink;
@@ -39,10 +42,12 @@ mod source;
 
 pub use count_sink::CountSink;
 pub use dir_shelf::DirShelf;
+pub use edge::TracedReader;
 pub use emitting::emit;
 pub use explain::{Explain, FailureReason};
 pub use given::Given;
 pub use in_source::InSource;
+pub use inlet::Inlet;
 pub use keeping_shelf::{Keeping, KeepingShelf};
 pub use limits::{MOST_BYTES, MOST_LINE};
 pub use line_sink::LineSink;

@@ -1,0 +1,47 @@
+//! Why a call failed that opens or reads a file.
+
+use crate::FailureReason;
+use std::fs;
+use std::io::{Error, ErrorKind};
+use std::rt::Files;
+
+// The numbers of system errors that have no kind: a socket is opened as a file, and the system, or
+// a process, has too many files open.
+const NO_SUCH_DEVICE: i32 = 6;
+
+const ALL_OPEN: i32 = 23;
+
+const MOST_OPEN: i32 = 24;
+
+// The reason for a system error of this number, which has no kind.
+fn reason_of_number(number: i32) -> FailureReason {
+    if number == NO_SUCH_DEVICE {
+        FailureReason::Socket
+    } else if number == ALL_OPEN || number == MOST_OPEN {
+        FailureReason::ManyOpen
+    } else {
+        FailureReason::Other
+    }
+}
+
+/// Why a call failed that opens or reads a file.
+pub(crate) fn reason_of(error: &Error) -> FailureReason {
+    match error.kind() {
+        ErrorKind::NotFound => FailureReason::Absent,
+        ErrorKind::IsADirectory => FailureReason::Folder,
+        ErrorKind::NotADirectory => FailureReason::NotInFolder,
+        ErrorKind::PermissionDenied => FailureReason::Forbidden,
+        ErrorKind::InvalidFilename => FailureReason::LongName,
+        ErrorKind::FilesystemLoop => FailureReason::LinkLoop,
+        _ => reason_of_number(error.raw_os_error().unwrap_or(0)),
+    }
+}
+
+/// Why the file of that name was not opened: `Dangling` if a link has that name and leads nowhere.
+pub(crate) fn reason_unopened<R: Files>(runtime: &R, name: &str, error: &Error) -> FailureReason {
+    match reason_of(error) {
+        FailureReason::Absent if fs::symlink_metadata(runtime, name).is_ok() =>
+            FailureReason::Dangling,
+        reason => reason,
+    }
+}
