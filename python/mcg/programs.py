@@ -139,7 +139,7 @@ def _folder() -> Iterator[str]:
     try:
         made = tempfile.TemporaryDirectory(prefix="mcg-")
     except FileNotFoundError as why:
-        raise ProgramFailed(f"no temporary folder can be made: {why.strerror}; set TMPDIR to a folder") from None
+        raise ProgramFailed(f"no temporary folder can be made: {why}; make its folder, or set tempfile.tempdir to one") from None
     with made as room:
         yield room
 

@@ -49,7 +49,7 @@ class Stream:
         try:
             file = tempfile.TemporaryFile()
         except FileNotFoundError as why:
-            raise ProgramFailed(f"no temporary file can be made: {why.strerror}; set TMPDIR to a folder") from None
+            raise ProgramFailed(f"no temporary file can be made: {why}; make its folder, or set tempfile.tempdir to one") from None
         with file as said:
             pipe = subprocess.PIPE
             process = started("mcg6", self.words, bufsize=0, stdin=pipe, stdout=pipe, stderr=said)
