@@ -40,7 +40,7 @@ EAR_FAULTS = {
     7: "the list ends here, but edge {edge} has not been added",
 }
 EAR_ADVICE = {
-    1: "give the first vertex of the ear, then its edges in order",
+    1: "write the first vertex of the ear, then its edges in order",
     2: "take a path of odd length",
     3: "begin and end at two such vertices",
     4: "end the ear there if the vertex is in the subgraph; otherwise take another path",
