@@ -16,6 +16,7 @@ from .picture import Picture
 
 if TYPE_CHECKING:
     from .comparisons import draw_comparison
+    from .cuts import draw_cut
     from .decompositions import draw_decomposition
     from .ears import draw_ears
     from .graphs import draw, to_dot
@@ -25,6 +26,7 @@ __all__ = [
     "Picture",
     "draw",
     "draw_comparison",
+    "draw_cut",
     "draw_decomposition",
     "draw_ears",
     "page",
@@ -38,6 +40,7 @@ _PLACES = {
     "draw_decomposition": "decompositions",
     "draw_ears": "ears",
     "draw_comparison": "comparisons",
+    "draw_cut": "cuts",
     "page": "pages",
 }
 

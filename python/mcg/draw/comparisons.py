@@ -121,6 +121,7 @@ def draw_comparison(
     plain = named(graph, labels)
     stages = stages_of(comparison, plain)
     first, second = stages[0].tree, tree_of(comparison.second, plain)
+    _share_kinds(comparison, first, second)
     order = partners(comparison)
     listed = [shore for tree in (first, second) for shore in tree.shores()]
     listed += [shore for stage in stages for shore in stage.tree.shores()]
@@ -169,6 +170,13 @@ def both_trees(
 
 def _number(name: Runs) -> int:
     return int(name[1].text) if len(name) > 1 else 0
+
+
+def _share_kinds(comparison: Comparison, first: PlainTree, second: PlainTree) -> None:
+    """Gives a leaf whose kind is not known that of its partner: isomorphic graphs are alike."""
+    for leaf, partner, _ in comparison.pairs:
+        one, other = first.leaves[leaf], second.leaves[partner]
+        one.kind, other.kind = one.kind or other.kind, other.kind or one.kind
 
 
 def _share_places(comparison: Comparison, first: PlainTree, second: PlainTree) -> None:

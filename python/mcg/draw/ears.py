@@ -1,6 +1,7 @@
 """`Ears.draw()`: a panel for the first edge, and one for each step."""
 from __future__ import annotations
 
+import math
 from dataclasses import replace
 from typing import Any, List, Mapping, NamedTuple, Optional, Sequence, Set
 
@@ -19,6 +20,7 @@ from .style import Point
 
 _GAP, _HIGH = 30.0, 60.0  # between panels of a row, and between rows
 _CAPTION, _PATH = 10.5, 9.5  # letters
+_NUMBER = 8.5  # the size of the number of an edge
 _GHOST = 2.6  # the radius of a vertex that is still to come
 COLOURS = (style.BLUE, style.RUST)
 _NEW = (
@@ -82,10 +84,17 @@ def step_look(graph: PlainGraph, steps: Sequence[Step], at: int, short: Sequence
 
 
 class Panels:
-    """The panels of all steps, on one frame. `key` tells what short names stand for."""
+    """The panels of all steps, on one frame. `key` tells what short names stand for; with `numbers`
+    the new edges have theirs, from 1."""
 
-    def __init__(self, graph: PlainGraph, steps: Sequence[Step], places: Sequence[Point]) -> None:
-        self.graph, self.steps = graph, steps
+    def __init__(
+        self,
+        graph: PlainGraph,
+        steps: Sequence[Step],
+        places: Sequence[Point],
+        numbers: bool = False,
+    ) -> None:
+        self.graph, self.steps, self.numbers = graph, steps, numbers
         self.short, self.key = short_names(graph.names)
         self.frame = frame_of(graph, places, Look(names="inside", widest=900.0))
         self.scenes = [self._panel(at) for at in range(len(steps))]
@@ -94,6 +103,9 @@ class Panels:
         scene = Scene()
         frame = replace(self.frame, prefix=f"s{at}_")
         draw_frame(scene, frame, step_look(self.graph, self.steps, at, self.short))
+        for ear, colour in zip(self.steps[at].edges, COLOURS) if self.numbers else ():
+            for k in ear:
+                _number(scene, self.frame.lines()[k], str(k + 1), colour)
         return scene
 
     @property
@@ -102,6 +114,22 @@ class Panels:
         boxes = [scene.box for scene in self.scenes]
         low = [min(box[k] for box in boxes) for k in (0, 1)]
         return (*low, *(max(box[k] for box in boxes) for k in (2, 3)))
+
+
+def _number(scene: Scene, line: Sequence[Point], words: str, colour: str) -> None:
+    """The number of an edge on a white ground, at two fifths of its length, so that edges that cross
+    at their middles show both."""
+    far, ends = 0.4 * math.dist(line[0], line[-1]), line[0]
+    for a, b in zip(line, line[1:]):
+        step = math.dist(a, b)
+        if step >= far:
+            ends = (a[0] + (b[0] - a[0]) * far / step, a[1] + (b[1] - a[1]) * far / step)
+            break
+        far -= step
+    half = style.width(words, _NUMBER) / 2 + 2
+    ground = Pen(style.PAPER, None, 0)
+    scene.rectangle(ends[0] - half, ends[1] - 5.5, ends[0] + half, ends[1] + 5.5, ground, radius=4)
+    scene.text(*ends, words, _NUMBER, fill=colour)
 
 
 def sheet(panels: Panels, columns: Optional[int] = None, widest: float = 720.0) -> Scene:
@@ -151,6 +179,7 @@ def draw_ears(
     *,
     pos: Optional[Positions] = None,
     columns: Optional[int] = None,
+    numbers: bool = False,
     labels: Optional[Mapping[Any, object]] = None,
     title: str = "",
     ax: Optional[Any] = None,
@@ -160,12 +189,12 @@ def draw_ears(
     are below.
 
     `graph` is the graph, if its order of vertices matters for the places; `columns` the number of
-    panels in a row. `pos`, `labels` and `ax` as for `draw`. Raises `ImportError` without NumPy and
+    panels in a row; `numbers` writes the numbers of the new edges on them, from 1. `pos`, `labels` and `ax` as for `draw`. Raises `ImportError` without NumPy and
     NetworkX if `pos` is not given.
     """
     numbered = graph_of(ears) if graph is None else Graph(graph)
     plain = named(numbered, labels)
-    panels = Panels(plain, steps_of(numbered, ears), places_of(numbered, plain, pos))
+    panels = Panels(plain, steps_of(numbered, ears), places_of(numbered, plain, pos), numbers)
     scene = sheet(panels, columns)
     add_short_names(scene, panels.key)
     count = len(ears.steps)

@@ -32,14 +32,20 @@ def shade(scene: Scene, frame: Frame, parts: Sequence[Sequence[int]]) -> None:
 def draw_cuts(scene: Scene, frame: Frame, cuts: Sequence[FrozenSet[int]]) -> None:
     """Draws cuts: a closed curve round each shore, blue for the first and rust for others, or lines
     through the cuts if two of them cross. They are called X, Y, .. or X with numbers."""
-    names = [[Run("XYZ"[k], italic=True)] for k in range(len(cuts))] if len(cuts) <= 3 else []
-    names = names or [cut_name(k, len(cuts)) for k in range(len(cuts))]
+    names = set_names(len(cuts))
     everything = frozenset(range(frame.graph.order))
     if any(_cross(a, b, everything) for a, b in itertools.combinations(cuts, 2)):
         for k, cut in enumerate(cuts):
             _draw_line(scene, frame, cut, names[k], BLUE if k == 0 else RUST)
         return
     draw_shores(scene, frame, [Shore(cut, name, BLUE) for cut, name in zip(cuts, names)])
+
+
+def set_names(count: int) -> List[Runs]:
+    """Returns names of sets: X, Y, Z, or X with numbers if there are more."""
+    if count <= 3:
+        return [[Run(letter, italic=True)] for letter in "XYZ"[:count]]
+    return [cut_name(k, count) for k in range(count)]
 
 
 def _cross(a: FrozenSet[int], b: FrozenSet[int], everything: FrozenSet[int]) -> bool:

@@ -9,7 +9,6 @@ import numpy as np
 from .layout import place
 from .layout.arrays import Array, as_points, centred
 from .layout.measures import crossings, resolution, scaled, strangers
-from .layout.plane import is_planar
 from .layout.relaxing import relax
 from .layout.symmetry import automorphisms
 from .nodes import Node, PlainTree, Set
@@ -85,8 +84,8 @@ def _followed(node: Node, above: Node) -> Array:
 
 
 def _best_square(node: Node, above: Node, target: Array) -> Optional[Array]:
-    """The places with the new square where it makes the fewest crossings; None if more than need
-    be."""
+    """The places with the new square where it makes the fewest crossings; None if there are more
+    than in the parent's picture."""
     pairs, known = node.graph.pairs, set(above.blocks)
     new = next(k for k, block in enumerate(node.blocks) if block not in known)
     gone = [at for block, at in zip(above.blocks, above.places) if block <= node.blocks[new]]
@@ -98,7 +97,7 @@ def _best_square(node: Node, above: Node, target: Array) -> Optional[Array]:
     least, _, best = min(options, key=lambda it: it[:2])
     if least == 0:
         return best
-    most = 0 if is_planar(node.graph) else crossings(np.array(above.places), above.graph.pairs)
+    most = crossings(np.array(above.places), above.graph.pairs)
     return best if least <= most else None
 
 
