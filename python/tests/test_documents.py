@@ -1,4 +1,4 @@
-"""What MANUAL shows of the package in Python, and what the package says of itself."""
+"""What PYTHON shows of the package in Python, and what the package says of itself."""
 import contextlib
 import doctest
 import importlib
@@ -18,16 +18,21 @@ import mcg.verify
 
 class Documents(unittest.TestCase):
     @unittest.skipIf(networkx is None, WITHOUT_NETWORKX)
-    def test_the_manual(self):
-        """The blocks marked `python` of MANUAL run one after the other."""
-        with open(f"{ROOT}/docs/MANUAL.md", encoding="utf-8") as file:
+    def test_the_page(self):
+        """The blocks marked `python` of PYTHON run one after the other, and print what their comments say."""
+        with open(f"{ROOT}/docs/PYTHON.md", encoding="utf-8") as file:
             blocks = re.findall(r"^```python\n(.*?)^```$", file.read(), re.M | re.S)
-        if not blocks:
-            self.skipTest("MANUAL has no block marked python")
-        names = {}
-        with contextlib.redirect_stdout(io.StringIO()):
-            for block in blocks:
-                exec(compile(block, "MANUAL", "exec"), names)
+        self.assertGreaterEqual(len(blocks), 6)
+        names, before = {}, os.getcwd()
+        with tempfile.TemporaryDirectory() as folder, contextlib.redirect_stdout(io.StringIO()) as said:
+            os.chdir(folder)
+            try:
+                for block in blocks:
+                    exec(compile(block, "PYTHON", "exec"), names)
+            finally:
+                os.chdir(before)
+        for wanted in re.findall(r"^print\(.*?\)  +# ([\[<TF].*)$", "".join(blocks), re.M):
+            self.assertIn(wanted, said.getvalue())
 
     def test_the_examples_in_docstrings(self):
         """Of all modules; what cannot be imported, for want of an optional package, is counted."""
