@@ -15,8 +15,11 @@ pub mod ConformalEars
 pub mod ConnectedShores
 pub mod ContractedMatchings
 pub mod CubicGraphs
+pub mod DeletedEdges
 pub mod DisjointEars
 pub mod DoneRuns
+pub mod ElpCuts
+pub mod HallMatchings
 pub mod InstalledRuns
 pub mod EarCounts
 pub mod EarPaths
@@ -36,6 +39,7 @@ pub mod LeafKindLists
 pub mod LinesTold
 pub mod ListMembers
 pub mod LoneSteps
+pub mod LoopedEdges
 pub mod Marriages
 pub mod MatchedParts
 pub mod MatchedWithin
@@ -46,10 +50,13 @@ pub mod NamesRead
 pub mod Neighbourhoods
 pub mod NestedCuts
 pub mod NestedFamilies
+pub mod OpenParts
 pub mod OutcomesExist
 pub mod PartitionSides
+pub mod Partners
 pub mod PickedDerivations
 pub mod PlainDecompositions
+pub mod Pockets
 pub mod QuotientCounts
 pub mod Quotients
 pub mod RegularCuts
@@ -64,6 +71,7 @@ pub mod Separated
 pub mod SeparatingCuts
 pub mod SetsRead
 pub mod SidesAcrossCuts
+pub mod StableSets
 pub mod StrongBipartite
 pub mod StrongDigraphs
 pub mod SurplusOfA
@@ -73,5 +81,6 @@ pub mod ToldFacts
 pub mod TreeNodes
 pub mod TutteBergeGallai
 pub mod TwoExtendable
+pub mod VertexCovers
 pub mod WideNeighbourhoods
 pub mod WidePairs

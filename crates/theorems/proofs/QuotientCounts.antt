@@ -20,7 +20,7 @@ use Rattle.theorems.proofs.SidesAcrossCuts.{shore-member}
 use Rattle.theorems.specs.Derivations.{IsCountedAt, both}
 
 -- the quotient has no loop
-loopless : (g : Graph) (p : List (List ℕ)) → IsGraph g → IsPartition g.order p → IsMultigraph (quotient g p)
+pub loopless : (g : Graph) (p : List (List ℕ)) → IsGraph g → IsPartition g.order p → IsMultigraph (quotient g p)
 loopless g p is pp = grind (arith, quotient_graph, quotient_edge, first_end, quotient, second_end)
 
 -- a leaf

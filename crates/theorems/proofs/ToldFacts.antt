@@ -102,7 +102,7 @@ told-kind files graph named status output held cov gives =
         told = s.1;
         brace = brace-kind named.graph s.0.kind s.2.kind;
         brick = k;
-        solid = (
+        bicritical = (
           (λ e. let q = k.0 e in let b = (brick_or_not named.graph is cov q.0).0 q.1 in (q.0, b.0, b.1)),
           (λ q. k.1 (q.0, (brick_or_not named.graph is cov q.0).1 (q.1, q.2))),
         );

@@ -85,7 +85,7 @@ pub record TellsKind (named : NamedGraph) (output : List ℕ) : Type 0 where
   pub told : lines.structure ≡ Some structure
   pub brace : (structure.kind ≡ Brace) ↔ (IsBipartite named.graph × HasOnlyTrivialTightCuts named.graph)
   pub brick : (structure.kind ≡ Brick) ↔ ((¬ IsBipartite named.graph) × HasOnlyTrivialTightCuts named.graph)
-  pub solid : (structure.kind ≡ Brick) ↔ ((¬ IsBipartite named.graph) × IsBicritical named.graph × ((u v : ℕ) → ¬ IsCutPair named.graph u v))
+  pub bicritical : (structure.kind ≡ Brick) ↔ ((¬ IsBipartite named.graph) × IsBicritical named.graph × ((u v : ℕ) → ¬ IsCutPair named.graph u v))
   pub composite : (x : List ℕ) → structure.kind ≡ Composite x → IsTight named.graph (mem x) × IsNontrivial named.graph.order (mem x)
   pub text : output ≡ with_given_names (analysis_text lines) named.names false
 

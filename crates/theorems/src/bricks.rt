@@ -1,12 +1,40 @@
-//! Bricks: where a nontrivial tight cut comes from, and which graphs are bricks.
+//! Bricks: barrier cuts and 2-separation cuts, where a nontrivial tight cut comes from, and which
+//! graphs are bricks.
 //!
 //! Source: Edmonds, Lovász and Pulleyblank, "Brick decompositions and the matching rank of
 //! graphs" (Combinatorica 2, 1982).
-ghost use Rattle.std.specs.Prelude.{ℕ, ◌≤◌, ◌⊎◌, ◌↔◌};
-ghost use Rattle.tree_check.specs.from_counting.Common.{Set};
-ghost use Rattle.graph_core.specs.Common.{IsCovered, Graph, IsBipartite, IsGraph, IsMultigraph, IsBarrier, IsBicritical, IsCutPair, HasOnlyTrivialTightCuts, IsNontrivial, IsTight, IsSide};
+ghost use Rattle.std.specs.Prelude.{◌≡◌, ◌≢◌, ℕ, ◌+◌, ◌≤◌, ◌⊎◌, ◌↔◌, true, false};
+ghost use Rattle.tree_check.specs.from_counting.Common.{Within, count, is_odd, pair_set, Set, singleton, union};
+ghost use Rattle.graph_core.specs.Common.{IsCovered, Graph, HasPerfect, IsBipartite, IsGraph, IsMultigraph, IsBarrier, IsBicritical, IsCutPair, HasOnlyTrivialTightCuts, IsNontrivial, IsTight, IsSide, first_end, in_cut, joined, second_end, size};
 ghost use Rattle.barrier_kit.specs.Common.{BarrierCut};
 ghost use Rattle.theorems.specs.Bricks.{IsBarrierCutOf, IsThreeConnected, SeparationCut};
+
+/// The two kinds of cuts of the theorem below are tight, in the textbooks' definitions. In a
+/// matching covered graph each component K of G - B, B a nonempty barrier, is a tight shore, which
+/// is nontrivial if and only if |B| ≥ 2 and |K| > 1. A cut pair {u, v} of it is either a barrier or
+/// a 2-separation: G - u - v has a perfect matching if and only if its components are even, and
+/// otherwise {u, v} is a barrier. For a cut pair {u, v} of any graph such that G - u - v has a
+/// perfect matching, each nonempty union of components of G - u - v, but not of all, is with u the
+/// shore of a nontrivial tight cut (Edmonds, Lovász and Pulleyblank 1982; Lucchesi and Murty,
+/// "Perfect Matchings").
+pub fn elp_cuts_law()
+    ensures barrier { (g : Graph) (s : Set) (a u : ℕ) → IsGraph g → IsCovered g → IsBarrier g s →
+        Within g.order a → s a ≡ true → Within g.order u → s u ≡ false →
+        IsTight g (joined g s u) × (IsNontrivial g.order (joined g s u) ↔
+        ((2 ≤ count g.order s) × (count g.order (joined g s u) ≢ 1))) }
+    ensures pair { (g : Graph) (u v : ℕ) → IsGraph g → IsCovered g → IsCutPair g u v →
+        HasPerfect g (pair_set u v) ↔
+        ((a : ℕ) → Within g.order a → pair_set u v a ≡ false →
+        is_odd (count g.order (joined g (pair_set u v) a)) ≡ false) }
+    ensures either { (g : Graph) (u v : ℕ) → IsGraph g → IsCovered g → IsCutPair g u v →
+        HasPerfect g (pair_set u v) ↔ (¬ (IsBarrier g (pair_set u v))) }
+    ensures separation { (g : Graph) (u v : ℕ) (m : Set) → IsGraph g → IsCutPair g u v →
+        HasPerfect g (pair_set u v) → 1 ≤ count g.order m → count g.order m + 3 ≤ g.order →
+        m u ≡ false → m v ≡ false →
+        ((e : ℕ) → Within (size g) e → pair_set u v (first_end g e) ≡ false →
+        pair_set u v (second_end g e) ≡ false → in_cut g m e ≡ false) →
+        IsTight g (union m (singleton u)) × IsNontrivial g.order (union m (singleton u)) }
+{}
 
 /// The theorem of Edmonds, Lovász and Pulleyblank: a matching covered graph with a nontrivial
 /// tight cut has a barrier cut or a 2-separation cut, which need not be the given one. In a
