@@ -1,13 +1,12 @@
 -- How a maximum matching meets the sets D, A and C, and that the components of G[D] are
 -- factor-critical. Each odd component of G - A has a missed vertex or an edge that leaves it; the
 -- bound of Berge is attained at A, so it has one of these (and the sums of OpenParts are tight).
-use Rattle.tree_check.proofs.from_counting.Common.{◌≡◌, ℕ, ◌+◌, ◌*◌, ◌≤◌, Bool, true, false, cond, ◌==◌, refl, sym, ap, ap₂, ◌∙◌, arith, ◌&&◌, ◌||◌, not, eq-eqb, eqb-true, mul-add, subst, inl, inr, cases_Bool, both_ways, false_from_ne_true, and_parts, and_from, not-false, not-true, bit_le, same_tests, bit_true, count_congr, count_zero, two_members, member_count, odd-add, odd-double, odd_pos, some_true, total_add, total_congr, total_le, total_mul, total_swap, total_tight, fun_ext, Within, bit, count, is_odd, total, Set, complement, minus, none, singleton}
-use Rattle.barrier_kit.proofs.Common.{cover_count, cover_in, covers, cut_family, leader_of, leads_out, part_same}
-use Rattle.graph_core.proofs.Common.{joined_outside, walk_joined, maximum_exists, edge_at, degrees, joined_self, component_count, is_least, odd_component_count, Graph, HasEnds, IsGraph, degree, edges_in_cut, first_end, in_cut, inside, second_end, size, IsMaximum, missed_count, joined}
-use Rattle.match_search.proofs.Certificates.{ends_total}
+use Rattle.tree_check.proofs.from_counting.Common.{◌≡◌, ℕ, ◌+◌, ◌*◌, ◌≤◌, Bool, true, false, ◌==◌, sym, ap, ap₂, ◌∙◌, arith, ◌&&◌, ◌||◌, not, eq-eqb, eqb-true, subst, inl, inr, cases_Bool, both_ways, false_from_ne_true, and_parts, and_from, not-false, not-true, bit_true, count_congr, count_zero, two_members, member_count, total_tight, fun_ext, Within, bit, count, is_odd, total, Set, complement, minus, none, singleton}
+use Rattle.barrier_kit.proofs.Common.{leader_of, part_same}
+use Rattle.graph_core.proofs.Common.{joined_outside, walk_joined, maximum_exists, edge_at, joined_self, component_count, is_least, odd_component_count, Graph, HasEnds, IsGraph, degree, edges_in_cut, first_end, in_cut, second_end, size, IsMaximum, missed_count, joined}
 use Rattle.theorems.proofs.MatchedWithin.{crossing_ends, met_once, not_at, other_end, perfect_within}
 use Rattle.theorems.proofs.OpenParts.{a_bound, cut_bound, cut_sum, each_open, edge_sum, into_a, lead_bound, leaving_at, missed_at, missed_few, missed_sum, odd_lead, one_each, open_sum, size_of}
-use Rattle.theorems.proofs.ThreeSets.{attains, component_is, components_odd, d_odd, d_out, d_step, ends_within, odd_d, turn_ends}
+use Rattle.theorems.proofs.ThreeSets.{attains, component_is, components_odd, d_odd, d_out, d_step, ends_within, turn_ends}
 use Rattle.theorems.specs.Matchings.{AreThreeSets, HasPerfectWithin, IsFactorCritical, MatchesAllButOne, MatchesWithin, component_in}
 
 module _ (g : Graph) (is : IsGraph g) (d a c : Set) (sets : AreThreeSets g d a c) (m : Set) (mm : IsMaximum g none m) where

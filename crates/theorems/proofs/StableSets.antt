@@ -4,7 +4,7 @@
 -- then at most as many of D were missed as by one of G; but k has no edge at v, so one more of the
 -- odd components of G - A has a missed vertex.
 use Rattle.tree_check.proofs.from_counting.Common.{◌≡◌, ◌≢◌, ℕ, ◌+◌, ◌*◌, ◌≤◌, Bool, true, false, ◌==◌, ◌&&◌, not, refl, sym, ap, ◌∙◌, arith, ◌↔◌, inl, inr, cases_Bool, cases_lt, count_put, count_singleton, eq-eqb, eqb-true, false_from_ne_true, put, total_add, total_le, true≢false, Within, bit, count, total, Set, none, singleton}
-use Rattle.graph_core.proofs.Common.{degree_put, edge_at, ends_of, ends_le_degree, maximum_exists, missed_edges, one_end, odd_component_count, missed_count, degree, edges_in_cut, size, Graph, IsGraph, IsMatching, IsMaximum, InD, HasEnds}
+use Rattle.graph_core.proofs.Common.{degree_put, edge_at, ends_of, maximum_exists, missed_edges, one_end, odd_component_count, missed_count, degree, size, Graph, IsGraph, IsMatching, IsMaximum, InD, HasEnds}
 use Rattle.theorems.proofs.MatchedParts.{a_met}
 use Rattle.theorems.proofs.OpenParts.{cut_bound, cut_sum, lead_bound, missed_sum, odd_lead, open_sum}
 use Rattle.theorems.proofs.ThreeSets.{attains}
