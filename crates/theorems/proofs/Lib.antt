@@ -67,6 +67,7 @@ pub mod ReplaysExist
 pub mod ReportsExist
 pub mod SameGraphs
 pub mod SameLeaves
+pub mod SearchTests
 pub mod Separated
 pub mod SeparatingCuts
 pub mod SetsRead

@@ -49,7 +49,10 @@ pub use extendable::extendable_law;
 pub use installed::installed_runs_law;
 pub use matchings::{berge_law, gallai_edmonds_law, gallai_lemma_law, tutte_law};
 pub use outcomes::{done_runs_law, headline_law, list_outcome_exists_law, report_exists_law};
-pub use program::{counts_law, first_separated_law, selection_law, third_part_law, tree_nodes_law};
+pub use program::{
+    brace_test_law, brick_test_law, counts_law, first_separated_law, selection_law, third_part_law,
+    tree_nodes_law,
+};
 pub use regular_graphs::{cubic_law, regular_law};
 pub use separating::separating_law;
 pub use weights::matching_duality_law;
