@@ -19,6 +19,7 @@ mod of_ears;
 mod of_elp_cuts;
 mod of_matchings;
 mod of_regular_graphs;
+mod of_search_tests;
 mod of_separating_cuts;
 mod of_sides;
 mod of_vertex_covers;

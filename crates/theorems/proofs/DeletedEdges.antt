@@ -18,7 +18,7 @@ connected_wide r g is regular even connected x odd =
     let u = count_member g.order x (odd_pos (count g.order x) odd) in
     let v = count_member g.order (complement x) (odd_pos (count g.order (complement x)) (complement_odd g.order x even odd)) in
     half (count g.order x) (cut_size g x) (inner_size g x) (each_degree r g x is.ends regular) (connected x u.0 v.0 u.1 v.1 u.2 (not-true (x v.0) v.2))
-        (eqb-true (count g.order x % 2) 1 (sym (is_odd_remainder (count g.order x)) ∙ odd))
+    (eqb-true (count g.order x % 2) 1 (sym (is_odd_remainder (count g.order x)) ∙ odd))
   where
     half : (k c i : ℕ) → r * k ≡ c + 2 * i → r ≤ c + 1 → k % 2 ≡ 1 → r ≤ c
     half k c i h l o =

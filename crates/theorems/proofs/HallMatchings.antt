@@ -56,11 +56,10 @@ module _ (g : Graph) (a : Set) (is : IsMultigraph g) (two : IsSide g a) where
     (λ h.
         let apart : (v : ℕ) → a v ≡ true → complement a v ≡ true → ⊥ = λ v i j. both_ways (a v) (not-true (a v) j) i in
         let enough : (z : Set) → count g.order (meet z a) ≤ count g.order (neighbours g.order (beside g) (complement a) (meet z a)) = λ z.
-            let sub : (v : ℕ) → meet z a v ≡ true → a v ≡ true = λ v i. (and_parts (z v) (a v) i).1 in
-            let few = h (meet z a) (λ v w. sub v) in
-            let more = count_mono g.order (neighbourhood g (meet z a)) (neighbours g.order (beside g) (complement a) (meet z a)) (near_beside (meet z a) sub) in omega arith in
-        let m = matched_pairs g a (complement a) is.ends apart enough in
-        (
+        let sub : (v : ℕ) → meet z a v ≡ true → a v ≡ true = λ v i. (and_parts (z v) (a v) i).1 in
+        let few = h (meet z a) (λ v w. sub v) in
+        let more = count_mono g.order (neighbourhood g (meet z a)) (neighbours g.order (beside g) (complement a) (meet z a)) (near_beside (meet z a) sub) in omega arith in
+        let m = matched_pairs g a (complement a) is.ends apart enough in (
           m.0,
           record { once = (perfect_matching g (complement (paired g a (complement a) is.ends apart enough)) m.0 m.1).once; away = λ v w o. absurd (true≢false (sym o)) },
           (λ v w t. m.1.once v w (ap not (own_paired g a (complement a) is.ends apart enough v w t))),

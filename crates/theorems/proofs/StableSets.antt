@@ -36,8 +36,7 @@ module _ (g : Graph) (is : IsGraph g) (d a c : Set) (sets : AreThreeSets g d a c
   without m mm =
       let e = edge_at g m v (let x = a_met g is d a c sets m mm v wv av in omega arith) in
       let k : Set = put m e.0 false in
-      let less : (w : ℕ) → degree g k w + ends_of g e.0 w ≡ degree g m w = λ w. let p = degree_put g m e.0 false w e.1 in let o = ap (λ b. bit b * ends_of g e.0 w) e.2 in omega arith in
-      (
+      let less : (w : ℕ) → degree g k w + ends_of g e.0 w ≡ degree g m w = λ w. let p = degree_put g m e.0 false w e.1 in let o = ap (λ b. bit b * ends_of g e.0 w) e.2 in omega arith in (
         k,
         record {
           once = (λ w ww. let l = less w in let o = mm.is.once w ww in omega arith);

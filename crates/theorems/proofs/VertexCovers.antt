@@ -131,9 +131,9 @@ module _ (g : Graph) (is : IsMultigraph g) (c : Set) (cover : IsVertexCover g c)
         let p = as_many a two left (λ v h. (left_in (z v) (c v) (a v) h).0) (λ v h. (left_in (z v) (c v) (a v) h).1) in
         let q = as_many (complement a) other_two right (λ v h. (left_in (z v) (c v) (not (a v)) h).0) (λ v h. (left_in (z v) (c v) (not (a v)) h).1) in
         let l = total_le g.order (λ v. bit (fresh left v) + bit (fresh right v)) (λ v. bit (fresh (meet z c) v)) (λ v w.
-            sum (fresh left v) (fresh right v) (fresh (meet z c) v) (a v)
-            (across a two left (λ u h. (left_in (z u) (c u) (a u) h).1) v) (λ h. not-false (a v) (across (complement a) other_two right (λ u h. (left_in (z u) (c u) (not (a u)) h).1) v h))
-            (more_fresh left (meet z c) (λ u h. (and_parts (meet z c u) (a u) h).0) v) (more_fresh right (meet z c) (λ u h. (and_parts (meet z c u) (not (a u)) h).0) v)) in
+        sum (fresh left v) (fresh right v) (fresh (meet z c) v) (a v)
+        (across a two left (λ u h. (left_in (z u) (c u) (a u) h).1) v) (λ h. not-false (a v) (across (complement a) other_two right (λ u h. (left_in (z u) (c u) (not (a u)) h).1) v h))
+        (more_fresh left (meet z c) (λ u h. (and_parts (meet z c u) (a u) h).0) v) (more_fresh right (meet z c) (λ u h. (and_parts (meet z c u) (not (a u)) h).0) v)) in
         let t = total_add g.order (λ v. bit (fresh left v)) (λ v. bit (fresh right v)) in omega arith
       where
         left : Set
@@ -184,11 +184,11 @@ module _ (g : Graph) (is : IsMultigraph g) (c : Set) (cover : IsVertexCover g c)
       m.0,
       is_matching,
       (let b = cover_bound g m.0 c is.ends is_matching cover in
-      let e = missed_edges g (complement pairs) m.0 is.ends (perfect_matching g (complement pairs) m.0 m.1) in
-      let z = perfect_misses g (complement pairs) m.0 m.1 in
-      let p = partners in
-      let l = total_le g.order (λ v. bit (c v) + bit (partner v)) (λ v. bit (not (complement pairs v))) (λ v w. sum (c v) (partner v) (pairs v) (own_paired g c (complement c) is.ends apart enough v w) (partner_in v) (partner_out v)) in
-      let t = total_add g.order (λ v. bit (c v)) (λ v. bit (partner v)) in omega arith),
+          let e = missed_edges g (complement pairs) m.0 is.ends (perfect_matching g (complement pairs) m.0 m.1) in
+          let z = perfect_misses g (complement pairs) m.0 m.1 in
+          let p = partners in
+          let l = total_le g.order (λ v. bit (c v) + bit (partner v)) (λ v. bit (not (complement pairs v))) (λ v w. sum (c v) (partner v) (pairs v) (own_paired g c (complement c) is.ends apart enough v w) (partner_in v) (partner_out v)) in
+          let t = total_add g.order (λ v. bit (c v)) (λ v. bit (partner v)) in omega arith),
     )
       where
         pairs : Set

@@ -36,6 +36,9 @@ pub enum Claim {
     Strong(&'static [u32], &'static [u32], &'static [u32]),
     /// This is so without the two ends of any edge of the matching.
     StrongEach(&'static [u32], &'static [u32]),
+    /// At each edge ab of the matching, the second set, with a in the side, the first, walks of the
+    /// digraph that begin no step at a lead from each other vertex to all but b, and back.
+    Reached(&'static [u32], &'static [u32]),
     /// Some nontrivial tight shore has the first vertex and not the second.
     Parted(u32, u32),
     /// Such steps lead from the edges to all edges of the graph.

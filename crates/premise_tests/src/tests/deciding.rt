@@ -56,6 +56,7 @@ impl Claim {
                 g.is_strong_without(set_of(removed), set_of(side), set_of(matching))
             }
             Claim::StrongEach(side, matching) => g.is_strong(set_of(side), set_of(matching)),
+            Claim::Reached(side, matching) => g.reaches_all(set_of(side), set_of(matching)),
             Claim::Parted(a, b) => g.has_tight_cut(one(*a), one(*b)),
             Claim::OneOrTwo(pairs) => serve_two(g, pairs),
             Claim::Few(set, most) => set_of(set).count_ones() < *most,
