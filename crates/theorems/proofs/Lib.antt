@@ -23,7 +23,7 @@ pub mod EarRefusals
 pub mod EarSteps
 pub mod ElementaryBarriers
 pub mod ElementaryComponents
-pub mod ElpCuts
+pub mod CutsBeside
 pub mod ExtendableCuts
 pub mod ExtendableGraphs
 pub mod FilesOfReads
@@ -54,7 +54,7 @@ pub mod PickedDerivations
 pub mod PlainDecompositions
 pub mod PocketContractions
 pub mod PocketShelters
-pub mod Pockets
+pub mod EvenPockets
 pub mod QuotientCounts
 pub mod Quotients
 pub mod RegularCuts

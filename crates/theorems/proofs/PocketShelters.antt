@@ -7,7 +7,7 @@ use Rattle.quick_kinds.proofs.from_brick_kit.Bricks.{shore_pair}
 use Rattle.quick_kinds.proofs.from_brick_kit.PairSeparations.{stays_joined}
 use Rattle.separation_kit.proofs.CutPairs.{beside_pair}
 use Rattle.theorems.proofs.ConnectedShores.{tight_joined}
-use Rattle.theorems.proofs.Pockets.{Pocket, other_part, closed_even, pocket_back, pocket_off, pocket_tight}
+use Rattle.theorems.proofs.EvenPockets.{Pocket, other_part, closed_even, pocket_back, pocket_off, pocket_tight}
 use Rattle.theorems.proofs.SmallerPockets.{Smaller, smaller_pocket}
 
 -- z contains a pocket and its first vertex

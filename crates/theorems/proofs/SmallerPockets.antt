@@ -8,7 +8,7 @@ use Rattle.graph_core.proofs.Common.{covered_perfect, covered_down, joined_self,
 use Rattle.quick_kinds.proofs.from_brick_kit.Bricks.{shore_pair}
 use Rattle.separation_kit.proofs.CutPairs.{beside_pair}
 use Rattle.theorems.proofs.MergedSets.{merged_set}
-use Rattle.theorems.proofs.Pockets.{Pocket, other_part, closed_even, pocket_off, shore_size}
+use Rattle.theorems.proofs.EvenPockets.{Pocket, other_part, closed_even, pocket_off, shore_size}
 use Rattle.theorems.proofs.PocketContractions.{Lift, contracted_bicritical, f_in, f_out, in_w, lift, lift_apart, off_down, off_up, own_s, own_t, w_d, w_tight}
 
 -- a smaller pocket, beside the vertex r

@@ -1,6 +1,6 @@
 use Rattle.theorems.proofs.BarrierShores.{shore_barrier}
 use Rattle.theorems.proofs.BrickFacts.{brick_facts_of, brick_from, three_brick}
-use Rattle.theorems.proofs.ElpCuts.{critical_reasons, elp_alone, elp_beside}
+use Rattle.theorems.proofs.CutsBeside.{critical_reasons, elp_alone, elp_beside}
 use Rattle.theorems.proofs.NamedCuts.{named_cut}
 use Rattle.theorems.proofs.ThreeConnected.{pair_or_three}
 use Rattle.theorems.proofs.bricks.elp_law.Goals as goal

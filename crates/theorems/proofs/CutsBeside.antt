@@ -7,7 +7,7 @@ use Rattle.graph_core.proofs.Common.{joined_self, walk_joined, IsCovered, Graph,
 use Rattle.quick_kinds.proofs.from_brick_kit.PairSeparations.{stays_joined}
 use Rattle.separation_kit.proofs.Separations.{separation_tight, separation_nontrivial}
 use Rattle.theorems.proofs.ConnectedShores.{tight_joined}
-use Rattle.theorems.proofs.Pockets.{Pocket, pocket_off, pocket_pair, pocket_part}
+use Rattle.theorems.proofs.EvenPockets.{Pocket, pocket_off, pocket_pair, pocket_part}
 use Rattle.theorems.proofs.PocketShelters.{HoldsPocket, critical_shelter}
 use Rattle.theorems.specs.Bricks.{HoldsReason, IsElpCut}
 use Rattle.theorems.specs.TightCuts.{Cross}
