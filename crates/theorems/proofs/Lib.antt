@@ -27,12 +27,14 @@ pub mod EarRefusals
 pub mod EarSteps
 pub mod ElementaryBarriers
 pub mod ElementaryComponents
+pub mod CutsBeside
 pub mod ExtendableCuts
 pub mod ExtendableGraphs
 pub mod FilesOfReads
 pub mod FirstSeparated
 pub mod HetyeiEars
 pub mod HetyeiSides
+pub mod InstalledRuns
 pub mod JoinedMatchings
 pub mod LaminarFamilies
 pub mod LeafKindLists
@@ -44,6 +46,7 @@ pub mod Marriages
 pub mod MatchedParts
 pub mod MatchedWithin
 pub mod MaximalBarriers
+pub mod MergedSets
 pub mod MovedShores
 pub mod NamedCuts
 pub mod NamesRead
@@ -57,6 +60,9 @@ pub mod Partners
 pub mod PickedDerivations
 pub mod PlainDecompositions
 pub mod Pockets
+pub mod PocketContractions
+pub mod PocketShelters
+pub mod EvenPockets
 pub mod QuotientCounts
 pub mod Quotients
 pub mod RegularCuts
@@ -73,6 +79,7 @@ pub mod SeparatingCuts
 pub mod SetsRead
 pub mod SidesAcrossCuts
 pub mod StableSets
+pub mod SmallerPockets
 pub mod StrongBipartite
 pub mod StrongDigraphs
 pub mod SurplusOfA

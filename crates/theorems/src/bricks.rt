@@ -3,11 +3,12 @@
 //!
 //! Source: Edmonds, Lovász and Pulleyblank, "Brick decompositions and the matching rank of
 //! graphs" (Combinatorica 2, 1982).
-ghost use Rattle.std.specs.Prelude.{◌≡◌, ◌≢◌, ℕ, ◌+◌, ◌≤◌, ◌⊎◌, ◌↔◌, true, false};
-ghost use Rattle.tree_check.specs.from_counting.Common.{Within, count, is_odd, pair_set, Set, singleton, union};
+ghost use Rattle.std.specs.Prelude.{◌≡◌, ◌≢◌, ℕ, ◌+◌, ◌≤◌, ◌⊎◌, ◌↔◌, true, false, not};
+ghost use Rattle.tree_check.specs.from_counting.Common.{Within, count, is_odd, pair_set, Set, singleton, union, complement};
 ghost use Rattle.graph_core.specs.Common.{IsCovered, Graph, HasPerfect, IsBipartite, IsGraph, IsMultigraph, IsBarrier, IsBicritical, IsCutPair, HasOnlyTrivialTightCuts, IsNontrivial, IsTight, IsSide, first_end, in_cut, joined, second_end, size};
 ghost use Rattle.barrier_kit.specs.Common.{BarrierCut};
-ghost use Rattle.theorems.specs.Bricks.{IsBarrierCutOf, IsThreeConnected, SeparationCut};
+ghost use Rattle.theorems.specs.Bricks.{HoldsReason, IsBarrierCutOf, IsElpCut, IsThreeConnected, SeparationCut};
+ghost use Rattle.theorems.specs.TightCuts.{Cross};
 
 /// The two kinds of cuts of the theorem below are tight, in the textbooks' definitions. In a
 /// matching covered graph each component K of G - B, B a nonempty barrier, is a tight shore, which
@@ -58,4 +59,14 @@ pub fn elp_law()
     ensures three_connected { (g : Graph) → IsMultigraph g →
         (IsCovered g × (¬ (IsBipartite g)) × HasOnlyTrivialTightCuts g) ↔
         (IsThreeConnected g × IsBicritical g) }
+    ensures beside { (g : Graph) (x : Set) → IsGraph g → IsCovered g → IsBicritical g →
+        IsTight g x → IsNontrivial g.order x →
+        (y : Set) × IsElpCut g y × (¬ (Cross g.order x y)) }
+    ensures inside { (g : Graph) (x : Set) → IsGraph g → IsCovered g → IsBicritical g →
+        IsTight g x → IsNontrivial g.order x → HoldsReason g x ⊎ HoldsReason g (complement x) }
+    ensures alone { (g : Graph) (x : Set) → IsGraph g → IsCovered g → IsBicritical g →
+        IsTight g x → IsNontrivial g.order x →
+        ((y : Set) → IsTight g y → IsNontrivial g.order y → ¬ (Cross g.order x y) →
+        ((v : ℕ) → Within g.order v → x v ≡ y v) ⊎
+        ((v : ℕ) → Within g.order v → x v ≡ not (y v))) → IsElpCut g x }
 {}
