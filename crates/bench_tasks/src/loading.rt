@@ -2,7 +2,7 @@
 //! any format, and one more each set of files that commands name.
 ghost use Rattle.std.specs.Prelude.{◌≡◌, ◌≤◌, [], ◌∷◌, IfOk, IfErr, length};
 ghost use Rattle.outside.specs.Common.{file_named};
-ghost use Rattle.move_text.specs.from_tree_core.Common.{Fits, shape_of, moves_of};
+ghost use Rattle.tree_core.specs.Common.{Fits, shape_of, moves_of};
 ghost use Rattle.move_text.specs.Common.{most_moves};
 ghost use Rattle.ear_text.specs.from_ear_core.Common.{FitsEars, ears_of};
 ghost use Rattle.graph_core.specs.Common.{size};
@@ -14,9 +14,9 @@ use crate::tasks::{GivenEars, GivenMoves, GivenPicks, GivenTree, GivenTrees};
 use ear_text::ear_core::EarList;
 use graph_core::MultiGraph;
 use graph_core::line_text::{FaultKind, TextFault};
-use move_text::tree_core::{Moves, Tree};
 use outside::{MOST_BYTES, Shelf, ShelfFault};
 use std::alloc::Global;
+use tree_core::{Moves, Tree};
 
 // What the file of that name holds, which has this place among the named files.
 fn load<S: Shelf, F: FileFormat>(

@@ -4,7 +4,7 @@ use Rattle.tree_check.proofs.from_counting.Common.{◌≡◌, ℕ, ◌-◌, Bool
 use Rattle.graph_core.proofs.Common.{has_ends-cases, quotient_graph, Graph, IsGraph, IsMultigraph, IsSimple, first_end, second_end, quotient}
 use Rattle.report_text.proofs.from_contraction.ProjectedMatchings.{one-edge}
 use Rattle.tree_check.proofs.from_move_laws.Uniqueness.{pairing_law}
-use Rattle.tree_check.proofs.from_tree_core.Common.{leaf_count-cuts, length-leaves_at, partitions-leaves, IsDerivation, cut_count, leaf_at, leaves, Shape}
+use Rattle.tree_core.proofs.Common.{leaf_count-cuts, length-leaves_at, partitions-leaves, IsDerivation, cut_count, leaf_at, leaves, Shape}
 use Rattle.theorems.proofs.PlainDecompositions.{pairing-words}
 use Rattle.theorems.proofs.QuotientCounts.{loopless}
 use Rattle.theorems.proofs.SameGraphs.{count_along, count_places, same-isomorphism, same_length, same_sides}

@@ -5,7 +5,7 @@
 use Rattle.std.specs.Prelude.{◌≡◌, ℕ, ◌≤◌, Bool, true, false, List, [], ◌∷◌, length}
 use Rattle.tree_check.specs.from_counting.Common.{Within, IsIn, mem, Set, complement, every, none, some_set}
 use Rattle.graph_core.specs.Common.{Graph, IsMultigraph, IsSimple, adjacent, edges_in_cut, in_cut, size, IsPerfectAt, blocks_adjacent, IsUnion, block_count}
-use Rattle.tree_check.specs.from_tree_core.Common.{IsTightShore, kept_at, merged_at, leaf_at, Shape, cut, leaf}
+use Rattle.tree_core.specs.Common.{IsTightShore, kept_at, merged_at, leaf_at, Shape, cut, leaf}
 
 -- the cuts of x and y cross: none of the four corners x ∩ y, x − y, y − x and the complement of
 -- x ∪ y in {1, .., n} is empty

@@ -7,10 +7,10 @@ ghost use Rattle.quick_kinds.specs.from_matching_digraph.Digraph.{Spans, arc, ar
 ghost use Rattle.tree_check.specs.from_tight_cuts.Common.{candidates, common_shore, first_separated, greater_end, is_separated, lesser_end, separates_tightly, SeparatesTightly};
 ghost use Rattle.theorems.specs.CutWords.{IsFirstSeparated, IsSeparated};
 ghost use Rattle.std.specs.List.{AllZip};
-ghost use Rattle.tree_check.specs.from_tree_core.Common.{LeadsTo, leaves, Shape, cut, cut_count, leaf, leaf_count, node_count, shores};
-ghost use Rattle.tree_check.specs.from_tree_core.declared.path.Side.{Side};
+ghost use Rattle.tree_core.specs.Common.{LeadsTo, leaves, Shape, cut, cut_count, leaf, leaf_count, node_count, shores};
+ghost use Rattle.tree_core.specs.declared.path.Side.{Side};
 ghost use Rattle.theorems.specs.Preorder.{ListsPaths};
-ghost use Rattle.tree_check.specs.from_tree_core.declared.tallies.Tally.{Tally};
+ghost use Rattle.tree_core.specs.declared.tallies.Tally.{Tally};
 ghost use Rattle.bench_top.specs.from_mcg6_lines.Standings.{IsCounted};
 ghost use Rattle.bench_top.specs.from_mcg6_lines.Selecting.{HasProperty, LacksProperty};
 ghost use Rattle.bench_top.specs.from_mcg6_lines.declared.query.Property.{Property};

@@ -13,9 +13,9 @@ use std::alloc::Global;
 use std::test::Fail;
 use tree_check::barrier_kit::classes;
 use tree_check::tight_cuts::candidates;
-use tree_check::tree_core::graph_facts::{Covered, Facts};
-use tree_check::tree_core::{Tree, fits};
 use tree_check::{Judgement, check};
+use tree_core::graph_facts::{Covered, Facts};
+use tree_core::{Tree, fits};
 use uncross::compare;
 
 // The cycle of the vertices 1 to 6.
