@@ -1,8 +1,9 @@
 //! Bricks: barrier cuts and 2-separation cuts, where a nontrivial tight cut comes from, and which
 //! graphs are bricks.
 //!
-//! Source: Edmonds, Lovász and Pulleyblank, "Brick decompositions and the matching rank of
-//! graphs" (Combinatorica 2, 1982).
+//! Sources: Edmonds, Lovász and Pulleyblank, "Brick decompositions and the matching rank of
+//! graphs" (Combinatorica 2, 1982); Carvalho, Lucchesi and Murty, "On tight cuts in matching
+//! covered graphs" (Journal of Combinatorics, 2018).
 ghost use Rattle.std.specs.Prelude.{◌≡◌, ◌≢◌, ℕ, ◌+◌, ◌≤◌, ◌⊎◌, ◌↔◌, true, false, not};
 ghost use Rattle.tree_check.specs.from_counting.Common.{Within, count, is_odd, pair_set, Set, singleton, union, complement};
 ghost use Rattle.graph_core.specs.Common.{IsCovered, Graph, HasPerfect, IsBipartite, IsGraph, IsMultigraph, IsBarrier, IsBicritical, IsCutPair, HasOnlyTrivialTightCuts, IsNontrivial, IsTight, IsSide, first_end, in_cut, joined, second_end, size};
@@ -43,7 +44,10 @@ pub fn elp_cuts_law()
 /// barrier B. A graph is a brick if and only if it has at least four vertices, is bicritical and
 /// has no cut pair; a graph with at least four vertices has no cut pair if and only if it is
 /// 3-connected; so a graph is a brick if and only if it is 3-connected and bicritical (Edmonds,
-/// Lovász and Pulleyblank 1982; Lovász 1987).
+/// Lovász and Pulleyblank 1982; Lovász 1987). In a bicritical graph each nontrivial tight cut has
+/// an ELP cut that does not cross it, with a reason inside one of its shores; if it is the only
+/// nontrivial tight cut that does not cross it, it is an ELP cut itself (Carvalho, Lucchesi and
+/// Murty 2018).
 pub fn elp_law()
     ensures cut { (g : Graph) (x : Set) → IsMultigraph g → IsCovered g →
         IsTight g x → IsNontrivial g.order x →
