@@ -63,7 +63,9 @@ def leaves(
     return _leaves(graphs, word, skipped)
 
 
-def elementary(graphs: Iterable[GraphLike], skipped: Optional[List[BadInput]] = None) -> Iterator[ListComponent]:
+def elementary(
+    graphs: Iterable[GraphLike], skipped: Optional[List[BadInput]] = None
+) -> Iterator[ListComponent]:
     """Yields the elementary components of each graph, in order, by a process for each 8,192 of them.
 
     These are the components of the subgraph of the allowed edges, by their least vertices; each
@@ -184,7 +186,9 @@ def _component(row: bytes, session: Session) -> ListComponent:
 
 def _labels(sent: Sent, numbers: List[int]) -> Iterator[Any]:
     """The labels of vertices by number; those of a graph in graph6 are 0, 1, .."""
-    vertices = range(graph6.decode(sent.line.decode("ascii"))[0]) if sent.vertices is None else sent.vertices
+    vertices = (
+        range(graph6.decode(sent.line.decode("ascii"))[0]) if sent.vertices is None else sent.vertices
+    )
     for k in numbers:
         if k < 1:
             raise ValueError(k)
