@@ -100,7 +100,10 @@ class Ears(Drawable):
         the graph."""
         numbered = dicts.graph_for("ears", self.graph, graph)
         steps = [
-            [{"vertex": numbered.number(it.vertex), "edges": dicts.edge_numbers(numbered, it.edges)} for it in step]
+            [
+                {"vertex": numbered.number(it.vertex), "edges": dicts.edge_numbers(numbered, it.edges)}
+                for it in step
+            ]
             for step in self.steps
         ]
         return {**dicts.head(numbered), "start": numbered.edge_number(self.start), "steps": steps}
@@ -112,7 +115,10 @@ class Ears(Drawable):
         numbered = dicts.numbered(given, graph)
         with dicts.understood("ears"):
             steps = [
-                tuple(Ear(numbered.label(it["vertex"]), tuple(numbered.edge_list(it["edges"]))) for it in step)
+                tuple(
+                    Ear(numbered.label(it["vertex"]), tuple(numbered.edge_list(it["edges"])))
+                    for it in step
+                )
                 for step in given["steps"]
             ]
             made = cls(numbered.edge(given["start"]), steps, numbered)

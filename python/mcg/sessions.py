@@ -52,7 +52,11 @@ class Session:
                 line, vertices = _line(graph)
             except BadInput as fault:
                 made: Type[BadInput] = type(fault)
-                named = made(f"graph {number + 1} of the list: {fault.words}{_hint(graph)}", number + 1, fault.kind)
+                named = made(
+                    f"graph {number + 1} of the list: {fault.words}{_hint(graph)}",
+                    number + 1,
+                    fault.kind,
+                )
                 if self.skipped is None:
                     raise named from None
                 self.faults[self.count + 1] = named
@@ -108,7 +112,9 @@ def demand_list(graphs: Any, skipped: Any, processes: Any) -> None:
         raise ValueError(f"processes is the number of processes, at least 1, and not {processes!r}")
     advice = "a list of graphs is an iterable of graphs, and this is one graph: put it in a list, [graph]"
     if isinstance(graphs, (str, bytes)):
-        raise TypeError("a list of graphs is an iterable of graphs, and not a text: put it in a list, [text]")
+        raise TypeError(
+            "a list of graphs is an iterable of graphs, and not a text: put it in a list, [text]"
+        )
     if isinstance(graphs, Graph) or hasattr(graphs, "is_directed"):
         raise TypeError(advice)
     if skipped is not None and not isinstance(skipped, list):
@@ -144,9 +150,13 @@ def _line(graph: Any) -> Tuple[bytes, Optional[Sequence[Label]]]:
         return numbered.graph6().encode("ascii"), numbered.vertices
     text = graph6.bare(_text(graph))
     if "\n" in text:
-        raise BadGraph(f"not one graph in graph6: there are several lines in {brief(repr(text))}", kind=8)
+        raise BadGraph(
+            f"not one graph in graph6: there are several lines in {brief(repr(text))}", kind=8
+        )
     if len(text) >= MOST_LINE:
         raise TooLarge("a line of a list has at most 65,536 bytes", kind=LIMIT)
     if not text.isascii() or text.startswith(graph6.HEADER):
-        raise BadGraph(f"not a graph in graph6: a byte is outside 63 to 126 in {brief(repr(text))}", kind=RANGE)
+        raise BadGraph(
+            f"not a graph in graph6: a byte is outside 63 to 126 in {brief(repr(text))}", kind=RANGE
+        )
     return text.encode("ascii"), None

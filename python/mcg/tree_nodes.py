@@ -39,7 +39,9 @@ class Leaf:
 
     def _parts(self) -> Tuple[Any, ...]:
         """What two leaves share if they are equal."""
-        edges = frozenset((pair, frozenset(map(edge_key, listed))) for pair, listed in self.edges.items())
+        edges = frozenset(
+            (pair, frozenset(map(edge_key, listed))) for pair, listed in self.edges.items()
+        )
         return self.kind, frozenset(self.blocks), edges
 
     def __eq__(self, other: object) -> bool:
@@ -53,7 +55,11 @@ class Leaf:
     def __repr__(self) -> str:
         if not self.blocks:
             return "Leaf()" if self.kind is None else f"Leaf({self.kind!r})"
-        sizes = counted(len(self.blocks), "block"), counted(len(self.edges), "pair"), counted(self.size, "edge")
+        sizes = (
+            counted(len(self.blocks), "block"),
+            counted(len(self.edges), "pair"),
+            counted(self.size, "edge"),
+        )
         return "<{} on {}, {}, {}>".format(self.kind or "leaf", *sizes)
 
     def graph(self, multigraph: bool = False) -> Any:
