@@ -1,8 +1,8 @@
 """python3 -m mcg page FILE -o page.html: writes a page on a graph.
 
-FILE is a graph file, a file with one graph in graph6, - for standard input, or a text in graph6. The
-page is one HTML file with everything in it. Status 0: it is written; 1: it could not be made; 2: the
-command line is wrong.
+FILE is a graph file, a file with one graph in graph6, - for standard input, or a text in graph6.
+The page is one HTML file with everything in it. Status 0: it is written; 1: it could not be made;
+2: the command line is wrong.
 """
 from __future__ import annotations
 

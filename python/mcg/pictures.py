@@ -8,8 +8,8 @@ if TYPE_CHECKING:
 
 
 class Drawable:
-    """A class whose objects have a picture; a notebook shows it by itself, if NumPy and NetworkX are
-    there, which find the places."""
+    """A class whose objects have a picture; a notebook shows it by itself, if NumPy and NetworkX
+    are there, which find the places."""
 
     def draw(self, **options: Any) -> Picture:
         """Returns the picture."""

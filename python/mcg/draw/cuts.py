@@ -5,11 +5,11 @@ from typing import Any, FrozenSet, Iterable, List, Mapping, Optional
 
 from ..graphs import Graph, GraphLike
 from ..sources import Label
-from .graph_scene import Look, draw_graph
+from .graph_scene import draw_graph
 from .graphs import Positions, named, places_of
 from .names import short_names
 from .nodes import Set, barred, grown, names_of
-from .panels import CAPTION, TreeStyle, node_look
+from .panels import CAPTION, SQUARE, TreeStyle, node_look
 from .picture import Picture, finished
 from .plain import PlainGraph
 from .scene import Run, Runs, Scene
@@ -51,8 +51,8 @@ def draw_cut(
     draw_cuts(whole, frame, shores)
     scenes, captions = [whole], [_with(plain, names, shores)]
     for node, name, prefix in zip(tree.root.below, (barred(names[0]), names[0]), "km"):
-        look: Look = node_look(node, shared)
-        look.marks = {v: mark for v, mark in look.marks.items() if mark.shape == "square" and len(node.blocks[v]) > 1}
+        look = node_look(node, shared)
+        look.marks = {v: SQUARE for v, block in enumerate(node.blocks) if len(block) > 1}
         scene = Scene()
         draw_graph(scene, node.graph, node.places, look, prefix)
         scenes.append(scene)
@@ -84,4 +84,3 @@ def _row(scenes: List[Scene], captions: List[Runs]) -> Scene:
         scene.text(x + it.wide / 2, high + 20, words, CAPTION)
         x += it.wide + _GAP
     return scene
-

@@ -117,8 +117,8 @@ class Panels:
 
 
 def _number(scene: Scene, line: Sequence[Point], words: str, colour: str) -> None:
-    """The number of an edge on a white ground, at two fifths of its length, so that edges that cross
-    at their middles show both."""
+    """The number of an edge on a white ground, at two fifths of its length, so that edges that
+    cross at their middles show both."""
     far, ends = 0.4 * math.dist(line[0], line[-1]), line[0]
     for a, b in zip(line, line[1:]):
         step = math.dist(a, b)
@@ -184,13 +184,13 @@ def draw_ears(
     title: str = "",
     ax: Optional[Any] = None,
 ) -> Picture:
-    """Returns the picture of an ear decomposition: a panel for the first edge and one for each step,
-    on the same places. The new ear is blue, a second one rust and dashed; the vertices along each
-    are below.
+    """Returns the picture of an ear decomposition: a panel for the first edge and one for each
+    step, on the same places. The new ear is blue, a second one rust and dashed; the vertices along
+    each are below.
 
     `graph` is the graph, if its order of vertices matters for the places; `columns` the number of
-    panels in a row; `numbers` writes the numbers of the new edges on them, from 1. `pos`, `labels` and `ax` as for `draw`. Raises `ImportError` without NumPy and
-    NetworkX if `pos` is not given.
+    panels in a row; `numbers` writes the numbers of the new edges on them, from 1. `pos`, `labels`
+    and `ax` as for `draw`. Raises `ImportError` without NumPy and NetworkX if `pos` is not given.
     """
     numbered = graph_of(ears) if graph is None else Graph(graph)
     plain = named(numbered, labels)

@@ -55,7 +55,7 @@ def _ordered(
 
 
 def _component(graph: PlainGraph, part: List[int], A: AbstractSet[int]) -> Array:
-    """A component by itself, its vertices with neighbours in A turned up, its top left at (0, 0)."""
+    """A component by itself, its top left at (0, 0), its vertices with neighbours in A turned up."""
     q: Array = place(graph.induced(part)) * 0.85
     tied = [k for k, v in enumerate(part) if graph.near[v] & A]
     if tied and len(part) > 1:

@@ -30,6 +30,7 @@ class Entry(NamedTuple):
 
     @property
     def wide(self) -> float:
+        """How wide the entry is."""
         return self.lead + words_width(self.words, SIZE)
 
 

@@ -5,8 +5,8 @@ import importlib
 from types import ModuleType
 
 _LAYOUT = (
-    "a layout needs NumPy and NetworkX (Debian: python3-numpy, python3-networkx); with pos=, a dict "
-    "from labels to places, a graph and its ears are drawn without them"
+    "a layout needs NumPy and NetworkX (Debian: python3-numpy, python3-networkx); with pos=, a "
+    "dict from labels to places, a graph and its ears are drawn without them"
 )
 _AXES = "drawing on axes and into PNG and PDF files needs Matplotlib (Debian: python3-matplotlib)"
 

@@ -26,8 +26,9 @@ Names = Dict[Set, Runs]
 
 
 class Node:
-    """A node of a tree: `blocks`, sets of vertices from 0 by their greatest; `shore` and `below`, the nodes `kept` and `merged`, at a cut; `kind` at a
-    leaf. `number` counts cuts and leaves each from 0 in preorder, `path` leads from the root.
+    """A node of a tree: `blocks`, sets of vertices from 0 by their greatest; `shore` and `below`,
+    the nodes `kept` and `merged`, at a cut; `kind` at a leaf. `number` counts cuts and leaves each
+    from 0 in preorder, `path` leads from the root.
 
     `places` are those of the blocks, once a layout has found them.
     """
@@ -72,6 +73,7 @@ class PlainTree(NamedTuple):
 
     @property
     def whole(self) -> PlainGraph:
+        """The graph that is decomposed."""
         return self.root.whole
 
     def shores(self) -> List[Set]:

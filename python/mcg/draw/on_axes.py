@@ -1,4 +1,4 @@
-"""A scene on axes of Matplotlib: one point of the scene is one of the figure, or what the axes given
+"""A scene on axes of Matplotlib: one point of the scene is one of the figure, or what the axes
 allow."""
 from __future__ import annotations
 

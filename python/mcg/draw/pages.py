@@ -4,10 +4,10 @@ Without the script, and on paper, everything is there: the tree opened, all step
 """
 from __future__ import annotations
 
-from pathlib import Path
 from typing import List, NamedTuple
 
 from ..graphs import GraphLike
+from . import assets
 from .ears import Panels, steps_of
 from .graphs import count_of, places_of
 from .hypertext import count, safe
@@ -18,8 +18,6 @@ from .plain import PlainGraph
 from .reports import Reports, reports_of
 from .stages import Stage, stages_of
 from .tree_places import arrange
-
-_HERE = Path(__file__).parent
 
 
 class _Part(NamedTuple):
@@ -33,8 +31,8 @@ class _Part(NamedTuple):
 
 def page(graph: GraphLike, title: str = "") -> str:
     """Returns a page on a graph as a text of HTML: what `analyse` says with the picture, and for a
-    matching covered graph the tree of its decomposition, its ears step by step, the moves to another
-    decomposition one by one, and the reports.
+    matching covered graph the tree of its decomposition, its ears step by step, the moves to
+    another decomposition one by one, and the reports.
 
     Raises `ImportError` without NumPy and NetworkX, `BadGraph`, `TooLarge` and the exceptions on
     programs. A graph with 64 vertices takes about three seconds.
@@ -47,7 +45,7 @@ def page(graph: GraphLike, title: str = "") -> str:
     sections = "".join(
         f'<section id="{it.place}"><h2>{it.heading}</h2>{it.body}</section>' for it in parts
     )
-    css, script = ((_HERE / it).read_text("utf-8") for it in ("page.css", "page.js"))
+    css, script = assets.read("page.css"), assets.read("page.js")
     return (
         '<!DOCTYPE html>\n<html lang="en"><head><meta charset="utf-8">'
         '<meta name="viewport" content="width=device-width, initial-scale=1">'

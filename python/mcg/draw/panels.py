@@ -14,6 +14,7 @@ from .scene import Pen, Run, Scene
 from .shores import BLUE, RUST, Shore, draw_shores
 
 CAPTION = 10.5
+SQUARE = style.Mark(style.SAND, style.INK, "square")  # a contracted set
 _PAD, _HALF = 11.0, 34.0  # round the graph in a frame, and half of the least width of a frame
 
 
@@ -42,7 +43,7 @@ def node_look(node: Node, shared: TreeStyle) -> Look:
     look = Look(names="inside", widest=900.0, radius=shared.radius, length=shared.length)
     for k, block in enumerate(node.blocks):
         if len(block) > 1:
-            look.marks[k] = style.Mark(style.SAND, style.INK, "square")
+            look.marks[k] = SQUARE
             look.texts[k] = shared.names[block]
             look.titles[k] = "{" + ", ".join(node.whole.names[v] for v in sorted(block)) + "}"
         else:

@@ -49,6 +49,7 @@ class Path:
     ends: Optional[Tuple[str, str]] = None
 
     def moved(self, dx: float, dy: float, scale: float) -> Path:
+        """Returns the path at another place, its lengths scaled."""
         by = (dx, dy)
         steps = [
             (it[0], *(v * scale + by[k % 2] for k, v in enumerate(it[1:]))) for it in self.steps
@@ -68,6 +69,7 @@ class Disc:
     name: str = ""
 
     def moved(self, dx: float, dy: float, scale: float) -> Disc:
+        """Returns the disc at another place, its lengths scaled."""
         return replace(
             self, x=self.x * scale + dx, y=self.y * scale + dy, radius=self.radius * scale
         )
@@ -84,6 +86,7 @@ class Polygon:
     shape: str = ""
 
     def moved(self, dx: float, dy: float, scale: float) -> Polygon:
+        """Returns the polygon at another place, its lengths scaled."""
         return replace(self, points=[(x * scale + dx, y * scale + dy) for x, y in self.points])
 
 
@@ -99,6 +102,7 @@ class Rectangle:
     pen: Pen
 
     def moved(self, dx: float, dy: float, scale: float) -> Rectangle:
+        """Returns the rectangle at another place, its lengths scaled."""
         return Rectangle(
             self.x * scale + dx,
             self.y * scale + dy,
@@ -123,6 +127,7 @@ class Text:
     kind: str = ""
 
     def moved(self, dx: float, dy: float, scale: float) -> Text:
+        """Returns the text at another place, its lengths scaled."""
         return replace(
             self,
             x=self.x * scale + dx,
@@ -147,6 +152,7 @@ class Group:
     data: Dict[str, Any] = field(default_factory=dict)
 
     def moved(self, dx: float, dy: float, scale: float) -> Group:
+        """Returns itself: it has no place."""
         return self
 
 
@@ -155,6 +161,7 @@ class End:
     """The end of a group."""
 
     def moved(self, dx: float, dy: float, scale: float) -> End:
+        """Returns itself: it has no place."""
         return self
 
 
@@ -170,10 +177,12 @@ class Scene:
 
     @property
     def wide(self) -> float:
+        """How wide the box is."""
         return self.box[2] - self.box[0]
 
     @property
     def high(self) -> float:
+        """How high the box is."""
         return self.box[3] - self.box[1]
 
     def grow(self, x0: float, y0: float, x1: float, y1: float) -> None:

@@ -1,7 +1,7 @@
 """The trees between the moves of a comparison, by the rules of docs/FORMATS.md.
 
-The report of `compare` says that each move can be made, so nothing is decided here; the tests compare
-these trees with what `replay` makes.
+The report of `compare` says that each move can be made, so nothing is decided here; the tests
+compare these trees with what `replay` makes.
 """
 from __future__ import annotations
 

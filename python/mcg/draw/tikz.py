@@ -1,4 +1,4 @@
-"""A scene as TikZ, for papers: letters in the fonts of the paper, one point of the scene is 0.75pt."""
+"""A scene as TikZ, for papers: letters in the fonts of the paper, a point of the scene is 0.75pt."""
 from __future__ import annotations
 
 from typing import Dict, List

@@ -35,8 +35,8 @@ def arrange(tree: PlainTree, places: Optional[Sequence[Point]] = None) -> None:
 
 
 def follow_to(node: Node, known: Dict[FrozenSet[Set], List[Point]]) -> List[Point]:
-    """Returns the places of a node, found down from the root without what is beside the way; `known`
-    has those that were found before, by their blocks."""
+    """Returns the places of a node, found down from the root without what is beside the way;
+    `known` has those that were found before, by their blocks."""
     blocks = frozenset(node.blocks)
     if blocks not in known:
         assert node.above is not None

@@ -1,4 +1,4 @@
-"""Plane drawings: embeddings, their faces, and drawings with each inner vertex amid its neighbours."""
+"""Plane drawings: embeddings, their faces, and each inner vertex amid its neighbours."""
 from __future__ import annotations
 
 import math

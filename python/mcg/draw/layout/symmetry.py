@@ -1,4 +1,4 @@
-"""Automorphisms of a graph, and starts for a layout that have one of them as a rotation or a mirror."""
+"""Automorphisms of a graph, and starts for a layout with one as a rotation or a mirror."""
 from __future__ import annotations
 
 import itertools
