@@ -19,6 +19,8 @@ A graph is a graph of NetworkX or of Sage, a pair (vertices, edges), an iterable
 text in graph6 (see `Graph`), with at most 128 vertices and 2,048 edges.
 
 One graph: `analyse`, `decompose`, `check`, `ears`, `check_ears`, `compare`, `script`, `replay`.
+Edges of matching covered graphs: `removable`, `b_invariant`, `removable_doubletons`, `thin`.
+Cuts and new graphs: `is_tight`, `contract`, `retract`, `bisubdivide`, `splice`, `is_petersen`.
 Lists of graphs, streamed: `kinds`, `leaves`, `elementary`, `select`.
 Each answer has a short `repr`, a text for `print`, and `to_dict` with `from_dict` (see `mcg.dicts`);
 it can be pickled.
@@ -31,11 +33,15 @@ Vertices and edges are in your own labels everywhere. Where something has a numb
 `Graph(G).edges[k - 1]`, and so are nodes, steps and moves. Places in a list of Python count from 0:
 `index`, and the leaves in `Comparison.pairs`. The labels of a graph in graph6 are 0, 1, ..
 
-The package decides nothing about graphs; what is decided is decided by the programs. The one
-exception is `mcg.verify`, a second opinion that checks reports without them.
+What is decided about graphs is decided by the programs, and each docstring says by which command.
+The package itself only does what needs no theorem: it counts degrees, contracts and splices, and
+recognises the Petersen graph. The one exception is `mcg.verify`, a second opinion that checks
+reports without the programs.
 """
 from .analysis import Analysis, analyse
+from .bricks import b_invariant, removable, removable_doubletons, thin
 from .comparisons import Comparison, compare, script
+from .contractions import Contraction, Contractions, contract, retract
 from .decompositions import Picks, Refusal, TreeCheck, check, decompose
 from .ear_checks import EarsCheck, check_ears
 from .ear_lists import Ear, Ears, ears
@@ -55,8 +61,11 @@ from .graphs import Graph
 from .list_answers import Kind, ListComponent, ListLeaf
 from .lists import elementary, kinds, leaves, select
 from .moves import Moves, Rotate, Switch
+from .petersen import is_petersen
 from .properties import Order, Property
 from .replays import Replay, replay
+from .splices import bisubdivide, splice
+from .tightness import Tightness, is_tight
 from .trees import Cut, Decomposition, Leaf
 from .version import __version__
 
@@ -68,6 +77,8 @@ __all__ = [
     "BadInput",
     "BadText",
     "Comparison",
+    "Contraction",
+    "Contractions",
     "Cut",
     "Decomposition",
     "Ear",
@@ -92,20 +103,31 @@ __all__ = [
     "Replay",
     "Rotate",
     "Switch",
+    "Tightness",
     "TooLarge",
     "TreeCheck",
     "__version__",
     "analyse",
+    "b_invariant",
+    "bisubdivide",
     "check",
     "check_ears",
     "compare",
+    "contract",
     "decompose",
     "ears",
     "elementary",
+    "is_petersen",
+    "is_tight",
     "kinds",
     "leaves",
+    "removable",
+    "removable_doubletons",
     "replay",
+    "retract",
     "script",
     "select",
+    "splice",
+    "thin",
     "verify",
 ]
