@@ -10,6 +10,7 @@ from . import graph6, texts
 from .errors import LIMIT, BadGraph, BadText, TooLarge
 from .graph_texts import read_graph
 from .labels import Label, VertexSet, counted, shown
+from .sage_graphs import sage_graph
 from .sources import Edge, Source, edge_key, edge_numbers, parts_of
 
 
@@ -163,6 +164,14 @@ class Graph:
             # (`add_edges_from` can take a key of two-item parts for attributes)
             made.add_edge(u, v, *key)
         return made
+
+    def to_sage(self) -> Any:
+        """Returns a graph of Sage. If an edge has a key, it allows multiple edges, and the labels
+        of its edges are the keys. Needs Sage. Raises `ValueError` for a vertex None, which Sage
+        cannot have."""
+        is_multigraph = any(len(it) == 3 for it in self.edges)
+        edges = [(it[0], it[1], it[2] if len(it) == 3 else None) for it in self.edges]
+        return sage_graph(self.vertices, edges, is_multigraph)
 
     def __eq__(self, other: object) -> bool:
         if not isinstance(other, Graph):

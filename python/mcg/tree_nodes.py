@@ -7,6 +7,7 @@ from typing import Any, Dict, FrozenSet, List, Optional, Tuple, Union
 from .graph6 import encode
 from .graphs import Graph, new_networkx
 from .labels import Label, brief, counted, shown
+from .sage_graphs import sage_graph
 from .sources import Edge, edge_key
 
 Block = FrozenSet[Label]
@@ -69,6 +70,15 @@ class Leaf:
             else:
                 made.add_edge(*pair, edges=edges)
         return made
+
+    def to_sage(self, multigraph: bool = False) -> Any:
+        """Returns the leaf as a graph of Sage on its blocks, each edge with the edges of the given
+        graph that it stands for as its label, a tuple; or as one with multiple edges, in which
+        each of those is an edge, and its own label. Needs Sage."""
+        pairs = [(tuple(pair), edges) for pair, edges in self.edges.items()]
+        if multigraph:
+            return sage_graph(self.blocks, [(a, b, it) for (a, b), edges in pairs for it in edges], True)
+        return sage_graph(self.blocks, [(a, b, tuple(edges)) for (a, b), edges in pairs], False)
 
     def graph6(self) -> str:
         """Returns the graph6 text of the leaf as a simple graph, its vertices in the order of

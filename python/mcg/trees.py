@@ -7,6 +7,7 @@ from . import dicts, texts
 from .errors import LIMIT, BadText
 from .graphs import Graph, GraphLike
 from .labels import VertexSet, brief, counted, shown
+from .petersen import is_petersen
 from .sources import Edge
 from .tree_nodes import Block, Cut, Leaf, Tree, sides
 
@@ -76,17 +77,39 @@ class Decomposition:
     @property
     def bricks(self) -> int:
         """The number of leaves that are bricks. Raises `ValueError` if the kinds are not known."""
-        return self._count("brick")
+        return len(self._of_kind("brick"))
 
     @property
     def braces(self) -> int:
         """The number of leaves that are braces. Raises `ValueError` if the kinds are not known."""
-        return self._count("brace")
+        return len(self._of_kind("brace"))
 
-    def _count(self, kind: str) -> int:
+    @property
+    def petersen_bricks(self) -> int:
+        """p, the number of bricks whose simple graph is the Petersen graph. The package recognises
+        it, as `is_petersen` does. Raises `ValueError` if the kinds are not known."""
+        return sum(is_petersen(leaf.graph6()) for leaf in self._of_kind("brick"))
+
+    @property
+    def b_plus_p(self) -> int:
+        """b + p, the numbers of bricks and of Petersen bricks added: the least number of double
+        ears in an ear decomposition (Carvalho, Lucchesi and Murty, "Optimal ear decompositions of
+        matching covered graphs and bases for the matching lattice", 2002). Raises `ValueError` if
+        the kinds are not known."""
+        return self.bricks + self.petersen_bricks
+
+    @property
+    def dimension(self) -> int:
+        """m - n + 2 - b for a graph of n vertices and m edges with b bricks: the dimension of the
+        linear space that the perfect matchings span (Edmonds, Lovász and Pulleyblank, "Brick
+        decompositions and the matching rank of graphs", 1982). Raises `ValueError` if the kinds
+        are not known."""
+        return self.graph.size - self.graph.order + 2 - self.bricks
+
+    def _of_kind(self, kind: str) -> List[Leaf]:
         if any(leaf.kind is None for leaf in self.leaves):
             raise ValueError("the kinds of these leaves are not known; check(G, tree) counts them")
-        return sum(leaf.kind == kind for leaf in self.leaves)
+        return [leaf for leaf in self.leaves if leaf.kind == kind]
 
     def block(self, leaf: int, name: int) -> Block:
         """Returns the block of a leaf whose highest-numbered vertex has this number."""

@@ -5,6 +5,7 @@ import itertools
 import random
 import unittest
 from collections import Counter
+from fractions import Fraction
 
 from small_graphs import all_graphs, covered_graphs, is_isomorphic, retracted
 from support import Brute, brute_of, covered, cycle, drawn, mcg
@@ -272,6 +273,55 @@ class Petersen(unittest.TestCase):
                     self.assertEqual(mcg.is_petersen((range(10), changed)), wanted)
                     seen[wanted] += 1
         self.assertGreater(seen[False], 30)
+
+
+class Numbers(unittest.TestCase):
+    def test_the_dimension(self):
+        """m - n + 2 - b is the rank of the perfect matchings, as vectors over the edges; parallel edges are exchanged one by one."""
+        seen = set()
+        for graph in SMALL + RANDOM:
+            with self.subTest(graph=graph):
+                found = mcg.decompose(graph)
+                parallel = {}
+                for k, edge in enumerate(graph[1]):
+                    parallel.setdefault(frozenset(edge[:2]), []).append(k)
+                choices = (itertools.product(*(parallel[pair] for pair in it)) for it in brute_of(graph).perfect_matchings())
+                vectors = [sum(1 << k for k in chosen) for listed in choices for chosen in listed]
+                self.assertEqual(found.dimension, rank(vectors, len(graph[1])))
+                self.assertEqual((found.bricks, found.petersen_bricks, found.b_plus_p), (bricks_of(brute_of(graph)), 0, found.bricks))
+                seen.add(found.bricks)
+        self.assertEqual(seen, {0, 1, 2})
+
+    def test_petersen_bricks(self):
+        """The Petersen graph, with each of some vertices replaced by K3,3 without a vertex; the Petersen graph twice; with a parallel edge."""
+        edges = list(mcg.Graph(PETERSEN).edges)
+        k33 = [(a, b) for a in range(3) for b in range(3, 6)]
+        single = mcg.decompose([*((a, b, 0) for a, b in edges), (*edges[0], 1)])
+        self.assertEqual((single.bricks, single.petersen_bricks, single.b_plus_p, single.dimension), (1, 1, 2, 16 - 10 + 2 - 1))
+        at_last = [edge for edge in edges if 9 in edge]
+        one = mcg.splice(PETERSEN, 9, k33, 0, dict(zip(at_last, k33)))
+        at_v = [edge for edge in one.edges if (1, 1) in edge[:2]]
+        two = mcg.splice(one, (1, 1), PETERSEN, 9, dict(zip(at_v, at_last)))
+        for graph, count in ((one, 1), (two, 2)):
+            for order in ("first", "last", "balanced"):
+                found = mcg.decompose(graph, order)
+                self.assertEqual((found.bricks, found.braces, found.petersen_bricks, found.b_plus_p), (count, 1, count, 2 * count))
+
+    def test_unknown_kinds(self):
+        tree = mcg.Decomposition(PETERSEN, mcg.Leaf())
+        for name in ("petersen_bricks", "b_plus_p", "dimension"):
+            self.assertRaises(ValueError, getattr, tree, name)
+
+
+def rank(vectors, size):
+    """The rank over the rational numbers of vectors of zeros and ones, given as sums of powers of two."""
+    rows, found = [[Fraction(it >> k & 1) for k in range(size)] for it in vectors], 0
+    for column in range(size):
+        pivot = next((row for row in rows if row[column]), None)
+        if pivot is not None:
+            found += 1
+            rows = [[a - row[column] / pivot[column] * b for a, b in zip(row, pivot)] for row in rows if row is not pivot]
+    return found
 
 
 class Documents(unittest.TestCase):

@@ -1,4 +1,7 @@
-"""Graphs of Sage, by a stand-in: what is read of them, and what the programs say of them."""
+"""Graphs of Sage, by a stand-in and by Sage itself: what is read of them, and what the programs say of them."""
+import os
+import shutil
+import subprocess
 import unittest
 
 from support import brute_of, covered, drawn, mcg
