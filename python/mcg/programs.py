@@ -6,7 +6,6 @@ import re
 import shutil
 import signal
 import subprocess
-import tempfile
 from contextlib import contextmanager
 from typing import Any, Dict, Iterator, List, Mapping, Optional, Sequence, Tuple, Type
 
@@ -21,6 +20,7 @@ from .errors import (
     ProgramMissing,
     TooLarge,
 )
+from .memory_files import files_of, path_of
 
 DONE, NEGATIVE, BAD_INPUT, NO_MEMORY, NO_PROGRAM = 0, 1, 4, 6, 127
 
@@ -133,17 +133,6 @@ def reported(command: str, status: Optional[int] = None) -> Iterator[None]:
         raise ProgramFailed(f"the program did not write a report of {command} on this graph", status) from why
 
 
-@contextmanager
-def _folder() -> Iterator[str]:
-    """A temporary folder. Raises `ProgramFailed` if there can be none."""
-    try:
-        made = tempfile.TemporaryDirectory(prefix="mcg-")
-    except FileNotFoundError as why:
-        raise ProgramFailed(f"no temporary folder can be made: {why}; make its folder, or set tempfile.tempdir to one") from None
-    with made as room:
-        yield room
-
-
 def run(command: str, words: List[str], files: Dict[str, str]) -> Tuple[int, List[str]]:
     """Runs `mcg COMMAND WORDS..` and returns its status, 0 or 1, and the lines of the report.
 
@@ -151,12 +140,11 @@ def run(command: str, words: List[str], files: Dict[str, str]) -> Tuple[int, Lis
     `BadText` for a file outside its format, and `OutOfMemory`, `ProgramMissing` or
     `ProgramFailed`.
     """
-    pipes = {"stdin": subprocess.DEVNULL, "stdout": subprocess.PIPE, "stderr": subprocess.PIPE}
-    with _folder() as room:
-        for name, text in files.items():
-            with open(os.path.join(room, name), "w", encoding="latin-1", newline="\n") as file:
-                file.write(text)
-        with started("mcg", [command, *words], cwd=room, **pipes) as process:
+    pipes: Dict[str, Any] = {"stdin": subprocess.DEVNULL, "stdout": subprocess.PIPE, "stderr": subprocess.PIPE}
+    with files_of(files) as open_files:
+        paths = {name: path_of(descriptor) for name, descriptor in open_files.items()}
+        pipes["pass_fds"] = list(open_files.values())
+        with started("mcg", [command, *(paths.get(it, it) for it in words)], **pipes) as process:
             try:
                 out, said = process.communicate()
             except BaseException:

@@ -4,12 +4,12 @@ from __future__ import annotations
 import os
 import select
 import subprocess
-import tempfile
 from collections import deque
 from typing import IO, Deque, Dict, Generator, Iterator, List, Optional, Sequence
 
 from . import graph6
 from .errors import LIMIT, BadGraph, ProgramFailed, TooLarge
+from .memory_files import new_file
 from .programs import BAD_INPUT, DONE, bad_lines, ended, started, status_of
 
 CHUNK = 65_536
@@ -46,11 +46,7 @@ class Stream:
         self._kept_bytes = 0
 
     def __iter__(self) -> Generator[bytes, None, None]:
-        try:
-            file = tempfile.TemporaryFile()
-        except FileNotFoundError as why:
-            raise ProgramFailed(f"no temporary file can be made: {why}; make its folder, or set tempfile.tempdir to one") from None
-        with file as said:
+        with new_file() as said:
             pipe = subprocess.PIPE
             process = started("mcg6", self.words, bufsize=0, stdin=pipe, stdout=pipe, stderr=said)
             try:
