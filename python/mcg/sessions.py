@@ -1,8 +1,9 @@
-"""Graphs that are sent through one process of mcg6, and which of them a line of it is about."""
+"""Graphs that are sent through processes of mcg6, and which of them a line is about."""
 from __future__ import annotations
 
 from collections import deque
 from contextlib import closing
+from itertools import islice
 from typing import Any, Deque, Dict, Generator, Iterable, Iterator, List, NamedTuple, Optional, Sequence, Tuple, Type
 
 from . import graph6
@@ -34,8 +35,13 @@ class Session:
     for it.
     """
 
-    def __init__(self, graphs: Iterable[Any], skipped: Optional[List[BadInput]], before: int = 0) -> None:
+    sends_by: Type[Stream] = Stream
+
+    def __init__(
+        self, words: Sequence[str], graphs: Iterable[Any], skipped: Optional[List[BadInput]], before: int = 0
+    ) -> None:
         self.graphs, self.skipped, self.before, self.count = graphs, skipped, before, 0
+        self.stream = self.sends_by(words, self._lines(), skipped is not None, before)
         self.waiting: Deque[Sent] = deque()
         self.faults: Dict[int, BadInput] = {}
 
@@ -55,13 +61,12 @@ class Session:
             self.waiting.append(Sent(number, line, graph, vertices))
             yield line
 
-    def rows(self, *words: str) -> Generator[bytes, None, None]:
+    def rows(self) -> Generator[bytes, None, None]:
         """The lines that mcg6 writes; at the end those that it skipped are known."""
-        stream = Stream(words, self._lines(), self.skipped is not None, self.before)
-        with closing(iter(stream)) as rows:
+        with closing(iter(self.stream)) as rows:
             yield from rows
         if self.skipped is not None:
-            self.skipped += [self.faults.get(it) or fault for it, fault in sorted(stream.bad.items())]
+            self.skipped += [self.faults.get(it) or fault for it, fault in sorted(self.stream.bad.items())]
 
     def text_of(self, line: bytes) -> Sent:
         """The next graph that was sent with this line: the lines that come back are some of those
@@ -82,9 +87,25 @@ class Session:
         return self.waiting[0]
 
 
-def demand_list(graphs: Any, skipped: Any) -> None:
+def one_by_one(
+    words: Sequence[str], graphs: Iterable[Any], skipped: Optional[List[BadInput]], most: Optional[int]
+) -> Generator[Session, None, None]:
+    """Yields the sessions of a list, each with so many graphs, or one for all if that is None. Each
+    is to be used up before the next is taken."""
+    rest, before = without_header(graphs), 0
+    while True:
+        session = Session(words, rest if most is None else islice(rest, most), skipped, before)
+        yield session
+        before += session.count
+        if most is None or session.count < most:
+            return
+
+
+def demand_list(graphs: Any, skipped: Any, processes: Any) -> None:
     """Raises `TypeError` if a single graph is given for a list of graphs, or no list for those that
-    are skipped."""
+    are skipped, and `ValueError` for a number of processes that is none."""
+    if not isinstance(processes, int) or processes < 1:
+        raise ValueError(f"processes is the number of processes, at least 1, and not {processes!r}")
     advice = "a list of graphs is an iterable of graphs, and this is one graph: put it in a list, [graph]"
     if isinstance(graphs, (str, bytes)):
         raise TypeError("a list of graphs is an iterable of graphs, and not a text: put it in a list, [text]")

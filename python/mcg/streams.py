@@ -4,6 +4,7 @@ from __future__ import annotations
 import os
 import select
 import subprocess
+import time
 from collections import deque
 from typing import IO, Deque, Dict, Generator, Iterator, List, Optional, Sequence
 
@@ -14,6 +15,9 @@ from .programs import BAD_INPUT, DONE, bad_lines, ended, started, status_of
 
 CHUNK = 65_536
 
+# Lines are written together, up to so many bytes, and as many as come in so many seconds.
+PIECE, PATIENCE = 8_192, 0.001
+
 # The last lines that were sent are kept up to so many bytes: more than the pipe and mcg6 hold unread.
 KEPT = 400_000
 
@@ -22,9 +26,10 @@ class Stream:
     """A running `mcg6 WORDS..`: iterating yields the lines that it writes.
 
     Lines are taken from the iterator as far ahead as the pipe holds them, and in the caller's
-    thread; no line waits for the end of the list. If the iterator raises an exception, or a line
-    is bad, the lines for what came before are yielded first. `sent` counts the lines that were
-    taken. Closing ends the process.
+    thread; no line waits for the end of the list, but it may wait for the line after it. If the
+    iterator raises an exception, or a line is bad, the lines for what came before are yielded
+    first. `sent` counts the lines that were taken, and `is_last` says whether the iterator has
+    ended. Closing ends the process.
 
     If `skips`, the list goes on after bad lines: `bad` has the exception for each, by its number,
     when the list has ended. In exceptions a line is a graph of the caller's list, of which `before`
@@ -39,6 +44,7 @@ class Stream:
         self.yielded = 0
         self._unsent = b""
         self._unread = b""
+        self.is_last = False
         self._is_open = True
         self._ended_early = False
         self._failure: Optional[Exception] = None
@@ -55,7 +61,7 @@ class Stream:
                     yield line
                 self._end(status_of("mcg6", process), said)
             finally:
-                _stop(process)
+                stop(process)
 
     def _run(self, process: subprocess.Popen[bytes]) -> Iterator[bytes]:
         """Feeds the process and yields its lines until it closes its output."""
@@ -83,18 +89,34 @@ class Stream:
                     return
 
     def _fill(self) -> None:
-        """Takes the next line, if there is one."""
+        """Takes the next lines, as many as come in a moment."""
+        taken: List[bytes] = []
+        size, until = 0, time.monotonic() + PATIENCE
+        while size < PIECE and (not taken or time.monotonic() < until):
+            line = self._take()
+            if line is None:
+                break
+            taken += [line, b"\n"]
+            size += len(line) + 1
+        self._unsent = b"".join(taken)
+
+    def _take(self) -> Optional[bytes]:
+        """The next line, if there is one."""
+        if self.is_last:
+            return None
         try:
             line = next(self.lines, None)
         except Exception as failure:
             self._failure, line = failure, None
-        if line is not None:
-            self.sent += 1
-            self._unsent = line + b"\n"
-            self._kept.append(line)
-            self._kept_bytes += len(line) + 1
-            while self._kept_bytes > KEPT and len(self._kept) > 1:
-                self._kept_bytes -= len(self._kept.popleft()) + 1
+        if line is None:
+            self.is_last = True
+            return None
+        self.sent += 1
+        self._kept.append(line)
+        self._kept_bytes += len(line) + 1
+        while self._kept_bytes > KEPT and len(self._kept) > 1:
+            self._kept_bytes -= len(self._kept.popleft()) + 1
+        return line
 
     def _write(self, drain: int) -> bool:
         """Writes what the pipe takes, and returns whether somebody reads it."""
@@ -154,7 +176,7 @@ class Stream:
         return made(f"graph {number} of the list is not in graph6: {what}".rstrip(": "), number, kind)
 
 
-def _stop(process: subprocess.Popen[bytes]) -> None:
+def stop(process: subprocess.Popen[bytes]) -> None:
     """Ends the process if it still runs, and closes its pipes."""
     if process.poll() is None:
         process.kill()
