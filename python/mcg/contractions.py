@@ -6,31 +6,62 @@ covered, as `retract` demands, is decided by `mcg analyse`.
 from __future__ import annotations
 
 from dataclasses import dataclass, field
-from typing import Dict, FrozenSet, Iterable, List, NamedTuple, Sequence, Tuple
+from typing import Any, Dict, FrozenSet, Iterable, List, Mapping, NamedTuple, Sequence, Tuple
 
+from . import dicts
 from .analysis import analyse
 from .errors import BadGraph, NotCovered
 from .graphs import Graph, GraphLike
-from .sources import Label
+from .labels import Label, counted
 
 
 @dataclass(frozen=True, repr=False)
 class Contraction:
     """A graph in which sets of vertices of a given graph have become single vertices.
 
-    `graph` is the contraction, a `Graph`. The new vertices are labelled by the frozensets of the
-    vertices that they hold; all others keep their labels. Each edge is a triple (a, b, edge),
-    whose key is the edge of the given graph that it stands for. Edges within a set are left out.
-    The vertices are in the order of their highest-numbered members.
+    `graph` is the contraction, a `Graph`, and `given` the graph that it is made of. `sets` are the
+    sets of vertices of the given graph that were contracted. Each of them labels its new vertex;
+    all other vertices keep their labels. Each edge is a triple (a, b, edge), whose key is the edge
+    of the given graph that it stands for. Edges within a set are left out. The vertices are in the
+    order of their highest-numbered members.
 
     `image` has, for each vertex of the given graph, the vertex of the contraction that holds it.
+
+    >>> import mcg
+    >>> made = mcg.retract([("a", "b"), ("b", "c"), ("c", "d"), ("d", "a")])
+    >>> made
+    <Contraction of 4 vertices to 2, 4 edges to 2>
+    >>> made.image["a"]
+    {'a', 'b', 'd'}
+    >>> mcg.Contraction.from_dict(made.to_dict(), made.given) == made
+    True
     """
 
     graph: Graph
+    sets: List[FrozenSet[Label]] = field(hash=False)
     image: Dict[Label, Label] = field(hash=False)
+    given: Graph
 
     def __repr__(self) -> str:
-        return f"<mcg.Contraction of {len(self.image)} vertices to {self.graph.order}>"
+        sizes = counted(self.given.order, "vertex", "vertices"), counted(self.given.size, "edge")
+        return "<Contraction of {} to {}, {} to {}>".format(sizes[0], self.graph.order, sizes[1], self.graph.size)
+
+    def to_dict(self) -> Dict[str, Any]:
+        """Returns the contraction as a dict, by the rules of `mcg.dicts`: `sets` are those that were
+        contracted, and `kept` the edges of the given graph that are left."""
+        kept = [self.given.edge_number(key) for _, _, key in self.graph.edges]
+        sets = [self.given.numbers(it) for it in self.sets]
+        return {**dicts.head(self.given), "sets": sets, "kept": kept}
+
+    @classmethod
+    def from_dict(cls, given: Mapping[str, Any], graph: GraphLike) -> Contraction:
+        """Returns the contraction of a dict that `to_dict` made, with the labels of the graph.
+        Raises `BadText` for another dict, or a graph with other edges."""
+        numbered = dicts.numbered(given, graph)
+        with dicts.understood("a contraction"):
+            made = contracted(numbered, [frozenset(it) for it in given["sets"]])
+        dicts.demand_same(made.to_dict(), given)
+        return made
 
 
 class Contractions(NamedTuple):
@@ -47,16 +78,17 @@ class Contractions(NamedTuple):
 def contract(graph: GraphLike, shore: Iterable[Label]) -> Contractions:
     """Returns the two contractions of a graph at the cut with this shore.
 
-    The cut need not be tight; `is_tight` says whether it is. No program is asked. Raises
+    Of the two vertices that are new, each is labelled by the frozenset of the vertices that it
+    holds. The cut need not be tight; `is_tight` says whether it is. No program is asked. Raises
     `ValueError` if the shore is empty or holds every vertex, `BadText` for a label that is not a
     vertex, and `BadGraph`.
 
         >>> import mcg
         >>> kept, merged = mcg.contract([(0, 1), (1, 2), (2, 3), (3, 0)], {0, 1, 2})
         >>> kept.graph.vertices
-        (0, 1, 2, frozenset({3}))
+        (0, 1, 2, {3})
         >>> merged.graph.edges
-        ((frozenset({0, 1, 2}), 3, (2, 3)), (3, frozenset({0, 1, 2}), (3, 0)))
+        (({0, 1, 2}, 3, (2, 3)), (3, {0, 1, 2}, (3, 0)))
     """
     numbered = Graph(graph)
     inside = frozenset(numbered.numbers(shore))
@@ -79,9 +111,9 @@ def retract(graph: GraphLike) -> Contraction:
         >>> import mcg
         >>> made = mcg.retract([(0, 1), (1, 2), (2, 3), (3, 0)])
         >>> made.graph.vertices
-        (2, frozenset({0, 1, 3}))
+        (2, {0, 1, 3})
         >>> made.graph.edges
-        ((frozenset({0, 1, 3}), 2, (1, 2)), (2, frozenset({0, 1, 3}), (2, 3)))
+        (({0, 1, 3}, 2, (1, 2)), (2, {0, 1, 3}, (2, 3)))
     """
     numbered = Graph(graph)
     demand_covered(numbered)
@@ -112,7 +144,7 @@ def contracted(graph: Graph, sets: Sequence[FrozenSet[int]]) -> Contraction:
         if holder[a] != holder[b]
     ]
     image = {label: labels[holder[k]] for k, label in enumerate(graph.vertices, 1)}
-    return Contraction(Graph((list(labels.values()), edges)), image)
+    return Contraction(Graph((list(labels.values()), edges)), [graph.labels(it) for it in sets], image, graph)
 
 
 def retracted_sets(order: int, ends: Sequence[Tuple[int, int]]) -> List[FrozenSet[int]]:

@@ -8,7 +8,8 @@ from typing import Any, Dict, List, Mapping, Sequence, Tuple
 
 from .errors import BadText
 from .graphs import Graph, GraphLike
-from .sources import Edge, Label
+from .labels import Label
+from .sources import Edge
 
 
 def bisubdivide(graph: GraphLike, edge: Sequence[Any]) -> Graph:
