@@ -11,7 +11,8 @@ from typing import Dict, Iterable, Iterator, List, Sequence, Tuple
 from . import graph6
 from .contractions import demand_covered, retracted_sets
 from .graphs import Graph, GraphLike
-from .lists import Kind, elementary, kinds
+from .list_answers import Kind
+from .lists import elementary, kinds
 from .sources import Edge
 
 Ends = Tuple[int, int]

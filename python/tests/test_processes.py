@@ -61,7 +61,7 @@ class Processes(unittest.TestCase):
                         found.append(it)
                 with self.subTest(bad=bad, processes=processes):
                     self.assertEqual((len(found), raised.exception.line), (29, 30))
-                    self.assertIn("line 30", str(raised.exception))
+                    self.assertIn("graph 30 of the list", str(raised.exception))
 
     def test_an_iterable_that_fails(self):
         def graphs():
@@ -165,9 +165,6 @@ class MemoryFiles(unittest.TestCase):
         with self.assertRaises(mcg.BadGraph):
             list(mcg.kinds(["x!"], processes=3))
         self.assertEqual(sorted(os.listdir("/proc/self/fd")), before)
-
-    def test_words_of_a_program(self):
-        self.assertEqual(memory_files.with_names("mcg: /dev/fd/5, /dev/fd/57", {"tree": 5}), "mcg: tree, /dev/fd/57")
 
 
 if __name__ == "__main__":
