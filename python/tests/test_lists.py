@@ -143,7 +143,7 @@ class SkippedLines(unittest.TestCase):
 
     def test_select_over_several_processes(self):
         skipped = []
-        with mock.patch("mcg.sessions.SESSION", 3):
+        with mock.patch("mcg.lists.SESSION", 3):
             found = list(mcg.select(self.GRAPHS, "covered", skipped))
         self.assertEqual(found, ["C~", "A_"])
         self.assertEqual([it.line for it in skipped], self.BAD)
