@@ -2,6 +2,7 @@
 from __future__ import annotations
 
 import os
+import resource
 import subprocess
 import time
 from collections import deque
@@ -16,9 +17,9 @@ from .streams import CHUNK, KEPT, Stream, stop
 # A block takes at most so many lines and bytes, and as many lines as come in so many seconds.
 MOST_LINES, MOST_BYTES, PATIENCE = 8_192, KEPT, 0.05
 
-# The first blocks have so many lines. While a block ends within so many seconds, the next ones are
-# twice as long; after one that takes more than so many, they are half as long.
-FIRST_LINES, SHORT, LONG = 16, 0.1, 0.5
+# The first blocks have so many lines. While a process takes less than so many seconds of processor
+# time, the next blocks are twice as long; after one that takes more than so many, half as long.
+FIRST_LINES, SHORT, LONG = 16, 0.05, 0.25
 
 
 class Block(Stream):
@@ -32,7 +33,6 @@ class Block(Stream):
     _process: Optional[subprocess.Popen[bytes]] = None
     _files: Sequence[IO[bytes]] = ()
     _size = 0
-    _since = 0.0
 
     def start(self, most: int) -> None:
         """Takes at most so many lines, at least one if there is one, and starts the process."""
@@ -45,18 +45,24 @@ class Block(Stream):
             taken += [line, b"\n"]
             self._size += len(line) + 1
         source, drain, said = self._files = file_of(b"".join(taken)), new_file(), new_file()
-        self._since = time.monotonic()
         self._process = started("mcg6", self.words, stdin=source, stdout=drain, stderr=said)
 
     def is_running(self) -> bool:
-        """Returns whether the process still runs."""
-        return self._process is not None and self._process.poll() is None
+        """Returns whether the process still runs. Its exit status is left for `wait`."""
+        if self._process is None or self._process.returncode is not None:
+            return False
+        try:
+            return os.waitid(os.P_PID, self._process.pid, os.WEXITED | os.WNOWAIT | os.WNOHANG) is None
+        except ChildProcessError:
+            return False
 
     def wait(self) -> float:
-        """Waits until the process has ended, and returns the seconds since it was started."""
+        """Waits until the process has ended, and returns the seconds of processor time that it took.
+        If other threads wait for processes of theirs, those can be counted too."""
         assert self._process
+        before = _children()
         status_of("mcg6", self._process)
-        return time.monotonic() - self._since
+        return _children() - before
 
     def __iter__(self) -> Generator[bytes, None, None]:
         assert self._process
@@ -119,6 +125,12 @@ def at_once(
     finally:
         for it in begun:
             it.block.close()
+
+
+def _children() -> float:
+    """The seconds of processor time of all processes that were waited for."""
+    used = resource.getrusage(resource.RUSAGE_CHILDREN)
+    return used.ru_utime + used.ru_stime
 
 
 def _length(most: int, sent: int, seconds: float) -> int:

@@ -69,6 +69,10 @@ class Contractions(NamedTuple):
 
     In `kept`, which is G/X̄, the vertices of X are kept and all others are one vertex; in `merged`,
     which is G/X, the vertices of X are one vertex.
+
+    >>> import mcg
+    >>> mcg.contract("E~rG", {0, 2, 3}).merged
+    <Contraction of 6 vertices to 4, 11 edges to 8>
     """
 
     kept: Contraction

@@ -72,7 +72,7 @@ def leaves(
     """
     words = ["leaves", order_word(order)]
     demand_list(graphs, skipped, processes)
-    return _answers(words, _leaf, graphs, skipped, processes)
+    return _answers(words, _leaf, graphs, skipped, processes, SESSION)
 
 
 def elementary(
@@ -94,7 +94,7 @@ def elementary(
     <component 2, 3 of graph 1: A_>
     """
     demand_list(graphs, skipped, processes)
-    return _answers(["elementary"], _component, graphs, skipped, processes)
+    return _answers(["elementary"], _component, graphs, skipped, processes, SESSION)
 
 
 def select(
@@ -119,7 +119,7 @@ def select(
     """
     words = ["select", property_word(what)]
     demand_list(graphs, skipped, processes)
-    return _answers(words, _given, graphs, skipped, processes)
+    return _answers(words, _given, graphs, skipped, processes, SESSION)
 
 
 def _answers(
@@ -128,7 +128,7 @@ def _answers(
     graphs: Iterable[Any],
     skipped: Optional[List[BadInput]],
     processes: int,
-    most: Optional[int] = SESSION,
+    most: Optional[int],
 ) -> Iterator[Answer]:
     """What the lines say that mcg6 writes; each process takes so many graphs at most."""
     if processes > 1:

@@ -26,7 +26,7 @@ def new_file() -> IO[bytes]:
     try:
         return tempfile.TemporaryFile(buffering=0)
     except FileNotFoundError as why:
-        raise ProgramFailed(f"no temporary file can be made: {why.strerror}; set TMPDIR to a folder") from None
+        raise ProgramFailed(f"no temporary file can be made: {why}; make its folder, or set tempfile.tempdir to one") from None
 
 
 def file_of(content: bytes) -> IO[bytes]:

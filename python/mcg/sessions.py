@@ -131,10 +131,12 @@ def _hint(graph: Any) -> str:
 
 def without_header(graphs: Iterable[Any]) -> Iterator[Any]:
     """The graphs without a header that is alone, as the first line of a file may be."""
-    for place, graph in enumerate(graphs):
+    rest = iter(graphs)
+    for graph in islice(rest, 1):
         is_header = isinstance(graph, (str, bytes)) and _text(graph).rstrip("\r\n") == graph6.HEADER
-        if place or not is_header:
+        if not is_header:
             yield graph
+    yield from rest
 
 
 def _text(graph: Any) -> str:

@@ -21,6 +21,9 @@ REASONS = {
     "crossed": "some perfect matching has more than one edge in the cut",
 }
 
+# The reasons of tight cuts.
+TIGHT = ("trivial", "tight")
+
 # The reason for which `mcg check` refuses the first node of a tree that has one cut.
 REFUSED = {2: "even", 3: "trivial", 4: "crossed"}
 
@@ -74,8 +77,10 @@ class Tightness:
         numbered = dicts.numbered(given, graph)
         with dicts.understood("a tightness"):
             matching = None if given["matching"] is None else numbered.edge_list(given["matching"])
-            shore = numbered.labels(given["shore"])
-            made = cls(bool(given["tight"]), given["reason"], matching, shore, numbered)
+            shore, reason = numbered.labels(given["shore"]), given["reason"]
+            if reason not in REASONS:
+                raise ValueError(reason)
+            made = cls(reason in TIGHT, reason, matching, shore, numbered)
         dicts.demand_same(made.to_dict(), given)
         return made
 
@@ -111,4 +116,4 @@ def is_tight(graph: GraphLike, shore: Iterable[Label]) -> Tightness:
     reason = REFUSED.get(refused.why)
     if reason is None:
         raise ProgramFailed(f"mcg check refused a cut at the root for reason {refused.why}")
-    return Tightness(reason == "trivial", reason, refused.matching, named, numbered)
+    return Tightness(reason in TIGHT, reason, refused.matching, named, numbered)

@@ -2,6 +2,8 @@
 import doctest
 import importlib
 import itertools
+import json
+import pickle
 import random
 import unittest
 from collections import Counter
@@ -322,6 +324,24 @@ def rank(vectors, size):
             found += 1
             rows = [[a - row[column] / pivot[column] * b for a, b in zip(row, pivot)] for row in rows if row is not pivot]
     return found
+
+
+class Answers(unittest.TestCase):
+    def test_dicts_and_pickles(self):
+        """There and back, through JSON where the labels allow it; a changed dict is refused."""
+        for graph in SMALL[::4] + RANDOM[:8]:
+            shore = set(graph[0][: (len(graph[0]) + 1) // 2])
+            made = [mcg.retract(graph), *mcg.contract(graph, shore), mcg.is_tight(graph, shore)]
+            for it in made:
+                with self.subTest(graph=graph, it=it):
+                    told = it.to_dict()
+                    self.assertEqual(type(it).from_dict(told, graph), it)
+                    self.assertEqual(pickle.loads(pickle.dumps(it)), it)
+                    self.assertEqual(hash(type(it).from_dict(told, graph)), hash(it))
+                    json.dumps({**told, "vertices": list(map(repr, told["vertices"]))})
+                    for name in set(told) - {"vertices"}:
+                        with self.assertRaises(mcg.BadText):
+                            type(it).from_dict({**told, name: "x"}, graph)
 
 
 class Documents(unittest.TestCase):

@@ -156,6 +156,14 @@ class MemoryFiles(unittest.TestCase):
                 self.assertEqual(mcg.analyse("C~").kind, "brick")
                 self.assertEqual([it.kind for it in mcg.kinds(["C~"] * 3, processes=2)], ["brick"] * 3)
 
+    def test_no_place_for_a_file(self):
+        """Neither in memory nor on disk."""
+        with mock.patch("os.memfd_create", side_effect=OSError("no such call")), mock.patch("tempfile.tempdir", "/nowhere/folder"):
+            for call in (lambda: mcg.analyse("C~"), lambda: list(mcg.kinds(["C~"])), lambda: list(mcg.kinds(["C~"], processes=2))):
+                with self.assertRaises(mcg.ProgramFailed) as raised:
+                    call()
+                self.assertIn("/nowhere/folder", str(raised.exception))
+
     def test_nothing_is_left_open(self):
         mcg.analyse("C~")
         before = sorted(os.listdir("/proc/self/fd"))
