@@ -6,7 +6,8 @@ from typing import Iterable, List, Optional, Sequence, Union
 from .. import ear_lists
 from ..analysis import Analysis
 from ..graphs import Graph
-from ..sources import Edge, Label
+from ..labels import Label
+from ..sources import Edge
 from . import style
 from .graph_scene import Look
 from .keys import Entry

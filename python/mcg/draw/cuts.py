@@ -4,7 +4,7 @@ from __future__ import annotations
 from typing import Any, FrozenSet, Iterable, List, Mapping, Optional
 
 from ..graphs import Graph, GraphLike
-from ..sources import Label
+from ..labels import Label
 from .graph_scene import draw_graph
 from .graphs import Positions, named, places_of
 from .names import short_names

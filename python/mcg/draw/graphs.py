@@ -6,7 +6,7 @@ from typing import Any, FrozenSet, Iterable, List, Mapping, Optional, Sequence, 
 
 from ..analysis import Analysis, analyse
 from ..graphs import Graph, GraphLike
-from ..sources import Label
+from ..labels import Label
 from . import needs, style
 from .analysed import Matching, look_of, matched
 from .dot import bare_dot

@@ -6,7 +6,7 @@ from typing import Dict, List, Optional, Tuple
 
 from ..analysis import Analysis
 from ..comparisons import Comparison
-from ..decompositions import ORDERS
+from ..properties import ORDERS
 from ..ear_lists import Ears
 from ..graphs import Graph, GraphLike
 from ..programs import run
