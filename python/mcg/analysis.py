@@ -7,9 +7,10 @@ from typing import Any, Dict, FrozenSet, List, Mapping, Optional, Tuple
 from . import dicts, report_texts
 from .errors import NotCovered
 from .graphs import Graph, GraphLike
-from .labels import Label, counted
+from .labels import Label, counted, shown
 from .programs import reported, run, understood
 from .sources import Edge
+from .words import uncovered_words
 
 Pair = Tuple[Label, Label]
 
@@ -17,7 +18,10 @@ Pair = Tuple[Label, Label]
 STRUCTURE = ("classes", "bicritical", "equivalent_pair", "cut_pair", "kind", "shore")
 
 # The fields that are numbers and texts, sets of vertices, and pairs of them.
-PLAIN = ("order", "size", "components", "bipartite", "matching_number", "deficiency", "covered", "reason", "bicritical", "kind")
+PLAIN = (
+    *("order", "size", "components", "bipartite", "matching_number", "deficiency"),
+    *("covered", "reason", "bicritical", "kind"),
+)
 SETS = ("D", "A", "C", "shore")
 PAIRS = ("equivalent_pair", "cut_pair")
 
@@ -47,6 +51,17 @@ class Analysis:
     <Analysis of 4 vertices, 3 edges: not matching covered (edge)>
     >>> path.allowed, path.C
     ([('a', 'b'), ('c', 'd')], {'a', 'b', 'c', 'd'})
+    >>> print(path)
+    <Analysis of 4 vertices, 3 edges: not matching covered (edge)>
+    components: 1
+    bipartite: True
+    matching_number: 2
+    deficiency: 0
+    D: {}
+    A: {}
+    C: {'a', 'b', 'c', 'd'}
+    allowed: ('a', 'b'), ('c', 'd')
+    the graph is not matching covered: edge ('b', 'c') is in no perfect matching (leave out such edges: analyse lists the others as allowed)
     >>> mcg.Analysis.from_dict(path.to_dict(), path.graph) == path
     True
     """
@@ -78,6 +93,18 @@ class Analysis:
     def __repr__(self) -> str:
         sizes = f"{counted(self.order, 'vertex', 'vertices')}, {counted(self.size, 'edge')}"
         return f"<Analysis of {sizes}: {self.kind or f'not matching covered ({self.reason})'}>"
+
+    def __str__(self) -> str:
+        """The lines of the report, in labels."""
+        sets = [f"{name}: {shown(getattr(self, name))}" for name in ("D", "A", "C")]
+        rows = [f"{name}: {getattr(self, name)}" for name in ("components", "bipartite", "matching_number", "deficiency")]
+        rows = [repr(self), *rows, *sets, f"allowed: {', '.join(map(shown, self.allowed))}"]
+        if not self.covered:
+            return "\n".join([*rows, uncovered_words(self.reason, self.witness)])
+        pairs = [f"{name}: {shown(getattr(self, name))}" for name in PAIRS]
+        classes = f"classes: {', '.join(map(shown, self.classes or []))}"
+        kind = f"kind: {self.kind}" if self.shore is None else f"kind: {self.kind}, shore {shown(self.shore)}"
+        return "\n".join([*rows, classes, f"bicritical: {self.bicritical}", *pairs, kind])
 
     @classmethod
     def from_text(cls, text: str, graph: GraphLike) -> Analysis:

@@ -87,7 +87,11 @@ class Comparison:
         for name, it in (("first", self.first.to_dict()), ("second", self.second.to_dict())):
             made[name] = {part: it[part] for part in ("tree", "leaves")}
         made["pairs"] = [
-            {"leaf": leaf + 1, "partner": partner + 1, "map": [[graph.numbers(it)[-1] for it in row] for row in images.items()]}
+            {
+                "leaf": leaf + 1,
+                "partner": partner + 1,
+                "map": [[graph.numbers(it)[-1] for it in row] for row in images.items()],
+            }
             for leaf, partner, images in self.pairs
         ]
         return {**made, "moves": self.moves.to_dict(graph)["moves"]}
@@ -99,7 +103,9 @@ class Comparison:
         numbered = dicts.numbered(given, graph)
         with dicts.understood("a comparison"):
             start = dicts.head(numbered)
-            first, second = (Decomposition.from_dict({**start, **given[it]}, numbered) for it in ("first", "second"))
+            first, second = (
+                Decomposition.from_dict({**start, **given[it]}, numbered) for it in ("first", "second")
+            )
             pairs: List[Pairing] = []
             for row in given["pairs"]:
                 leaf, partner = row["leaf"] - 1, row["partner"] - 1

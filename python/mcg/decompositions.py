@@ -34,8 +34,15 @@ class Picks(List[int]):
         if len(self) > MOST_PICKS:
             raise BadText(f"there are {len(self)} picks, and {MOST_PICKS} is the most", kind=LIMIT)
         for it in self:
-            if isinstance(it, bool) or not hasattr(it, "__index__") or not 0 <= operator.index(it) <= MOST_PICK:
-                raise BadText(f"a pick is a number from 0 to {MOST_PICK:,}, and not {shown(it)}", kind=texts.NUMBER)
+            if (
+                isinstance(it, bool)
+                or not hasattr(it, "__index__")
+                or not 0 <= operator.index(it) <= MOST_PICK
+            ):
+                raise BadText(
+                    f"a pick is a number from 0 to {MOST_PICK:,}, and not {shown(it)}",
+                    kind=texts.NUMBER,
+                )
         return "\n".join([f"s mcg {len(self)}", *(f"pick {operator.index(it)}" for it in self)]) + "\n"
 
     @classmethod
@@ -144,7 +151,9 @@ class TreeCheck:
     def __repr__(self) -> str:
         if self.accepted:
             counts = counted(self.leaves or 0, "leaf", "leaves"), counted(self.bricks or 0, "brick")
-            return "<TreeCheck: accepted, {}, {}, {}>".format(*counts, counted(self.braces or 0, "brace"))
+            return "<TreeCheck: accepted, {}, {}, {}>".format(
+                *counts, counted(self.braces or 0, "brace")
+            )
         if self.refusal is not None:
             return f"<TreeCheck: refused at node {self.refusal.node}, {words.node_fault(self.refusal.why)}>"
         return f"<TreeCheck: not matching covered ({self.reason})>"

@@ -40,7 +40,9 @@ def numbered(given: Mapping[str, Any], graph: GraphLike) -> Graph:
         raise BadText(f"the dict is on another graph, with {sizes}")
     for k, (one, other) in enumerate(zip(ends, found.ends), 1):
         if one != list(other):
-            raise BadText(f"the dict is on another graph: edge {k} joins {one} there, and {list(other)} here")
+            raise BadText(
+                f"the dict is on another graph: edge {k} joins {one} there, and {list(other)} here"
+            )
     return found
 
 

@@ -53,7 +53,9 @@ class EarsCheck:
 
     def __repr__(self) -> str:
         if self.accepted:
-            return f"<EarsCheck: accepted, {self.steps} steps, {self.single} single, {self.double} double>"
+            return (
+                f"<EarsCheck: accepted, {self.steps} steps, {self.single} single, {self.double} double>"
+            )
         if self.step is not None:
             return f"<EarsCheck: refused at step {self.step}, reason {self.why}>"
         return f"<EarsCheck: not matching covered ({self.reason})>"

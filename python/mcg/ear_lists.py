@@ -12,6 +12,7 @@ from .labels import Label, counted, shown
 from .programs import reported, run
 from .sources import Edge
 
+
 @dataclass(frozen=True, repr=False)
 class Ear:
     """An ear: the vertex where it begins, and its edges in order.
@@ -95,7 +96,10 @@ class Ears:
         the graph."""
         numbered = dicts.graph_for("ears", self.graph, graph)
         steps = [
-            [{"vertex": numbered.number(it.vertex), "edges": dicts.edge_numbers(numbered, it.edges)} for it in step]
+            [
+                {"vertex": numbered.number(it.vertex), "edges": dicts.edge_numbers(numbered, it.edges)}
+                for it in step
+            ]
             for step in self.steps
         ]
         return {**dicts.head(numbered), "start": numbered.edge_number(self.start), "steps": steps}
@@ -107,7 +111,10 @@ class Ears:
         numbered = dicts.numbered(given, graph)
         with dicts.understood("ears"):
             steps = [
-                tuple(Ear(numbered.label(it["vertex"]), tuple(numbered.edge_list(it["edges"]))) for it in step)
+                tuple(
+                    Ear(numbered.label(it["vertex"]), tuple(numbered.edge_list(it["edges"])))
+                    for it in step
+                )
                 for step in given["steps"]
             ]
             made = cls(numbered.edge(given["start"]), steps, numbered)

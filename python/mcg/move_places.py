@@ -14,7 +14,9 @@ from .verify.structure import Given
 from .verify.trees import Node, node_of
 
 
-def stuck_or_made(graph: Graph, tree: Tree, moves: Sequence[Move]) -> Tuple[Optional[str], Optional[Tree]]:
+def stuck_or_made(
+    graph: Graph, tree: Tree, moves: Sequence[Move]
+) -> Tuple[Optional[str], Optional[Tree]]:
     """Returns a word on why the last of these moves has no result, and else the tree that it makes;
     (None, None) if there is no move, or an earlier one fails. Takes time in the number of the
     moves times that of the nodes."""

@@ -8,7 +8,7 @@ from typing import Any, Dict, FrozenSet, Iterable, List, Mapping, Optional, Unio
 from . import dicts, texts
 from .errors import LIMIT, BadText
 from .graphs import Graph, GraphLike
-from .labels import Label, brief, shown
+from .labels import Label, brief, counted, shown
 
 MOST_MOVES = 20_000
 
@@ -59,6 +59,8 @@ class Moves(List[Move]):
     `graph` is the `Graph` that they were found for, None for a list made by hand. `print` shows a
     line for each.
 
+    >>> Moves([Rotate("k"), Rotate("m")])
+    <Moves: 2 rotations, 0 switches>
     >>> print(Moves([Rotate("k"), Rotate("m")]))
     rotate k
     rotate m
@@ -69,6 +71,10 @@ class Moves(List[Move]):
     def __init__(self, moves: Iterable[Move] = (), graph: Optional[GraphLike] = None) -> None:
         super().__init__(moves)
         self.graph = None if graph is None else Graph(graph)
+
+    def __repr__(self) -> str:
+        rotates = sum(isinstance(it, Rotate) for it in self)
+        return f"<Moves: {counted(rotates, 'rotation')}, {counted(len(self) - rotates, 'switch', 'switches')}>"
 
     def __str__(self) -> str:
         return "\n".join(map(str, self))

@@ -38,7 +38,9 @@ def property_word(what: Any) -> str:
     word = what
     if isinstance(what, tuple) and len(what) == 2:
         word = f"{what[0]}={what[1]}"
-    if isinstance(word, str) and (word in PROPERTIES or re.fullmatch("(bricks|braces)=[0-9]{1,9}", word)):
+    if isinstance(word, str) and (
+        word in PROPERTIES or re.fullmatch("(bricks|braces)=[0-9]{1,9}", word)
+    ):
         return word
     allowed = f"{', '.join(PROPERTIES)}, bricks=K or braces=K with a number K"
     raise ValueError(f"what is {allowed}, and not {what!r}")

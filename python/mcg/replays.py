@@ -53,7 +53,11 @@ class Replay:
         if self.move is not None and self.refusal is not None:
             what = f"move {self.move}" if self.move else "the tree"
             return f"<Replay: {what} is refused at node {self.refusal.node}, {words.node_fault(self.refusal.why)}>"
-        return f"<Replay: move {self.move} has no result>" if self.move else f"<Replay: not matching covered ({self.reason})>"
+        return (
+            f"<Replay: move {self.move} has no result>"
+            if self.move
+            else f"<Replay: not matching covered ({self.reason})>"
+        )
 
     def __str__(self) -> str:
         return str(self.result) if self.result is not None else words.replay_words(self)
@@ -78,7 +82,9 @@ class Replay:
         with dicts.understood("a replay"):
             values: Dict[str, Any] = {name: given[name] for name in PLAIN}
             if given["result"] is not None:
-                values["result"] = Decomposition.from_dict({**dicts.head(numbered), **given["result"]}, numbered)
+                values["result"] = Decomposition.from_dict(
+                    {**dicts.head(numbered), **given["result"]}, numbered
+                )
             if given["refusal"] is not None:
                 values["refusal"] = Refusal.from_dict(given["refusal"], numbered)
             values["witness"] = dicts.read_witness(numbered, given["reason"], given["witness"])
@@ -103,7 +109,11 @@ def replay(graph: GraphLike, tree: TreeLike, moves: Iterable[Move]) -> Replay:
     <Replay: all moves were made, 2 leaves>
     """
     numbered, listed = Graph(graph), as_moves(moves)
-    files = {"graph": numbered.to_text(), "tree": tree_text(numbered, tree), "moves": listed.to_text(numbered)}
+    files = {
+        "graph": numbered.to_text(),
+        "tree": tree_text(numbered, tree),
+        "moves": listed.to_text(numbered),
+    }
     status, report = run("replay", list(files), files)
     with reported("replay", status):
         found = _understood(report, numbered)
@@ -119,7 +129,9 @@ def _placed(found: Replay, graph: Graph, tree: TreeLike, moves: Moves) -> Replay
         raise ValueError(f"there is no move {found.move}")
     if found.refusal is not None and found.refusal.node > 2 * leaf_count(as_tree(tree)) - 1:
         raise ValueError(f"the tree has no node {found.refusal.node}")
-    from .move_places import stuck_or_made  # (its moves are those of mcg.verify, which needs this module)
+    from .move_places import (
+        stuck_or_made,
+    )  # (its moves are those of mcg.verify, which needs this module)
 
     stuck, after = stuck_or_made(graph, as_tree(tree), moves[: found.move])
     if found.refusal is None:
@@ -139,10 +151,14 @@ def _read(report: List[str], graph: Graph) -> Tuple[Replay, List[str]]:
     line = report[0]
     if line.startswith("covered no"):
         reason, witness = verdict(line, graph) or ("", None)
-        return Replay(reason=reason, witness=witness), [report_texts.verdict_line(graph, reason, witness)]
+        return Replay(reason=reason, witness=witness), [
+            report_texts.verdict_line(graph, reason, witness)
+        ]
     if line.startswith("tree "):
         refused = refusal(line, graph)
-        return Replay(move=0, refusal=refused), [f"tree 1 refused {report_texts.refusal_words(graph, refused)}"]
+        return Replay(move=0, refusal=refused), [
+            f"tree 1 refused {report_texts.refusal_words(graph, refused)}"
+        ]
     found = re.fullmatch("move ([1-9][0-9]*) (stuck|refused .*)", line)
     if found and found[2] == "stuck":
         return Replay(move=int(found[1])), [f"move {found[1]} stuck"]

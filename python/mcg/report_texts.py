@@ -84,7 +84,10 @@ def analyse_lines(report: Analysis) -> List[str]:
         *rows,
         f"classes {len(classes)}",
         *(spaced("class", graph.numbers(it)) for it in classes),
-        spaced(f"bicritical {yes_or_no(report.bicritical)}", map(graph.number, report.equivalent_pair or ())),
+        spaced(
+            f"bicritical {yes_or_no(report.bicritical)}",
+            map(graph.number, report.equivalent_pair or ()),
+        ),
         spaced("cutpair", map(graph.number, report.cut_pair)) if report.cut_pair else "cutpair none",
         spaced(f"kind {report.kind}", shore),
     ]

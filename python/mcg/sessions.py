@@ -4,7 +4,20 @@ from __future__ import annotations
 from collections import deque
 from contextlib import closing
 from itertools import islice
-from typing import Any, Deque, Dict, Generator, Iterable, Iterator, List, NamedTuple, Optional, Sequence, Tuple, Type
+from typing import (
+    Any,
+    Deque,
+    Dict,
+    Generator,
+    Iterable,
+    Iterator,
+    List,
+    NamedTuple,
+    Optional,
+    Sequence,
+    Tuple,
+    Type,
+)
 
 from . import graph6
 from .errors import LIMIT, BadGraph, BadInput, TooLarge
@@ -38,7 +51,11 @@ class Session:
     sends_by: Type[Stream] = Stream
 
     def __init__(
-        self, words: Sequence[str], graphs: Iterable[Any], skipped: Optional[List[BadInput]], before: int = 0
+        self,
+        words: Sequence[str],
+        graphs: Iterable[Any],
+        skipped: Optional[List[BadInput]],
+        before: int = 0,
     ) -> None:
         self.graphs, self.skipped, self.before, self.count = graphs, skipped, before, 0
         self.stream = self.sends_by(words, self._lines(), skipped is not None, before)
@@ -52,7 +69,11 @@ class Session:
                 line, vertices = _line(graph)
             except BadInput as fault:
                 made: Type[BadInput] = type(fault)
-                named = made(f"graph {number + 1} of the list: {fault.words}{_hint(graph)}", number + 1, fault.kind)
+                named = made(
+                    f"graph {number + 1} of the list: {fault.words}{_hint(graph)}",
+                    number + 1,
+                    fault.kind,
+                )
                 if self.skipped is None:
                     raise named from None
                 self.faults[self.count + 1] = named
@@ -66,7 +87,9 @@ class Session:
         with closing(iter(self.stream)) as rows:
             yield from rows
         if self.skipped is not None:
-            self.skipped += [self.faults.get(it) or fault for it, fault in sorted(self.stream.bad.items())]
+            self.skipped += [
+                self.faults.get(it) or fault for it, fault in sorted(self.stream.bad.items())
+            ]
 
     def text_of(self, line: bytes) -> Sent:
         """The next graph that was sent with this line: the lines that come back are some of those
@@ -88,7 +111,10 @@ class Session:
 
 
 def one_by_one(
-    words: Sequence[str], graphs: Iterable[Any], skipped: Optional[List[BadInput]], most: Optional[int]
+    words: Sequence[str],
+    graphs: Iterable[Any],
+    skipped: Optional[List[BadInput]],
+    most: Optional[int],
 ) -> Generator[Session, None, None]:
     """Yields the sessions of a list, each with so many graphs, or one for all if that is None. Each
     is to be used up before the next is taken."""
@@ -108,11 +134,15 @@ def demand_list(graphs: Any, skipped: Any, processes: Any) -> None:
         raise ValueError(f"processes is the number of processes, at least 1, and not {processes!r}")
     advice = "a list of graphs is an iterable of graphs, and this is one graph: put it in a list, [graph]"
     if isinstance(graphs, (str, bytes)):
-        raise TypeError("a list of graphs is an iterable of graphs, and not a text: put it in a list, [text]")
+        raise TypeError(
+            "a list of graphs is an iterable of graphs, and not a text: put it in a list, [text]"
+        )
     if isinstance(graphs, Graph) or hasattr(graphs, "is_directed"):
         raise TypeError(advice)
     if skipped is not None and not isinstance(skipped, list):
-        raise TypeError(f"skipped is a list, to which the exceptions are appended, and not {skipped!r}")
+        raise TypeError(
+            f"skipped is a list, to which the exceptions are appended, and not {skipped!r}"
+        )
     iter(graphs)
 
 
@@ -146,9 +176,13 @@ def _line(graph: Any) -> Tuple[bytes, Optional[Sequence[Label]]]:
         return numbered.graph6().encode("ascii"), numbered.vertices
     text = graph6.bare(_text(graph))
     if "\n" in text:
-        raise BadGraph(f"not one graph in graph6: there are several lines in {brief(repr(text))}", kind=8)
+        raise BadGraph(
+            f"not one graph in graph6: there are several lines in {brief(repr(text))}", kind=8
+        )
     if len(text) >= MOST_LINE:
         raise TooLarge("a line of a list has at most 65,536 bytes", kind=LIMIT)
     if not text.isascii() or text.startswith(graph6.HEADER):
-        raise BadGraph(f"not a graph in graph6: a byte is outside 63 to 126 in {brief(repr(text))}", kind=RANGE)
+        raise BadGraph(
+            f"not a graph in graph6: a byte is outside 63 to 126 in {brief(repr(text))}", kind=RANGE
+        )
     return text.encode("ascii"), None

@@ -39,7 +39,9 @@ class Leaf:
 
     def _parts(self) -> Tuple[Any, ...]:
         """What two leaves share if they are equal."""
-        edges = frozenset((pair, frozenset(map(edge_key, listed))) for pair, listed in self.edges.items())
+        edges = frozenset(
+            (pair, frozenset(map(edge_key, listed))) for pair, listed in self.edges.items()
+        )
         return self.kind, frozenset(self.blocks), edges
 
     def __eq__(self, other: object) -> bool:
@@ -53,7 +55,11 @@ class Leaf:
     def __repr__(self) -> str:
         if not self.blocks:
             return "Leaf()" if self.kind is None else f"Leaf({self.kind!r})"
-        sizes = counted(len(self.blocks), "block"), counted(len(self.edges), "pair"), counted(self.size, "edge")
+        sizes = (
+            counted(len(self.blocks), "block"),
+            counted(len(self.edges), "pair"),
+            counted(self.size, "edge"),
+        )
         return "<{} on {}, {}, {}>".format(self.kind or "leaf", *sizes)
 
     def graph(self, multigraph: bool = False) -> Any:
@@ -77,7 +83,9 @@ class Leaf:
         each of those is an edge, and its own label. Needs Sage."""
         pairs = [(tuple(pair), edges) for pair, edges in self.edges.items()]
         if multigraph:
-            return sage_graph(self.blocks, [(a, b, it) for (a, b), edges in pairs for it in edges], True)
+            return sage_graph(
+                self.blocks, [(a, b, it) for (a, b), edges in pairs for it in edges], True
+            )
         return sage_graph(self.blocks, [(a, b, tuple(edges)) for (a, b), edges in pairs], False)
 
     def graph6(self) -> str:

@@ -106,9 +106,13 @@ def node_words(refusal: Refusal, at: str = "at node", advice: str = "") -> str:
         place += f", shore {shown(refusal.shore)}"
     fault = node_fault(refusal.why)
     if refusal.matching is not None:
-        fault += f", as it contains at least three edges of the perfect matching {listed(refusal.matching)}"
+        fault += (
+            f", as it contains at least three edges of the perfect matching {listed(refusal.matching)}"
+        )
     if refusal.cut is not None:
-        fault = f"it is a leaf, but the cut of the shore {shown(refusal.cut)} is nontrivial and tight there"
+        fault = (
+            f"it is a leaf, but the cut of the shore {shown(refusal.cut)} is nontrivial and tight there"
+        )
     return f"{at} {refusal.node} ({place}): {fault} ({advice or NODE_ADVICE.get(refusal.why, '')})"
 
 
@@ -120,7 +124,9 @@ def ears_words(found: EarsCheck) -> str:
     if found.at is not None:
         place += f", at edge {shown(found.at)}"
     fault = EAR_FAULTS.get(found.why or 0, f"reason {found.why}").format(edge=shown(found.edge))
-    return f"the list is not an ear decomposition; {place}: {fault} ({EAR_ADVICE.get(found.why or 0, '')})"
+    return (
+        f"the list is not an ear decomposition; {place}: {fault} ({EAR_ADVICE.get(found.why or 0, '')})"
+    )
 
 
 def replay_words(found: Replay) -> str:

@@ -63,7 +63,7 @@ class Dicts(unittest.TestCase):
     def test_there_and_back(self):
         """Each answer is equal to what `from_dict` makes of its dict, of its JSON, and of its pickle."""
         draw, seen = random.Random(41), {}
-        for graph in covered(41, 60):
+        for graph in covered(41, 30):
             for it in answers(graph, draw):
                 with self.subTest(graph=graph, answer=it):
                     made = it.to_dict()
@@ -78,7 +78,7 @@ class Dicts(unittest.TestCase):
                     seen[type(it).__name__] = seen.get(type(it).__name__, 0) + 1
         wanted = {"Analysis", "Decomposition", "TreeCheck", "Ears", "EarsCheck", "Comparison", "Moves", "Replay"}
         self.assertEqual(set(seen), wanted)
-        self.assertGreaterEqual(min(seen.values()), 60)
+        self.assertGreaterEqual(min(seen.values()), 30)
 
     def test_uncovered_graphs(self):
         reasons = set()
@@ -135,9 +135,8 @@ class Shown(unittest.TestCase):
         draw = random.Random(43)
         for graph in covered(43, 20):
             for it in answers(graph, draw):
-                if not isinstance(it, mcg.Moves):
-                    self.assertNotIn("\n", repr(it))
-                    self.assertLessEqual(len(repr(it)), 120)
+                self.assertNotIn("\n", repr(it))
+                self.assertLessEqual(len(repr(it)), 120)
 
     def test_a_tree_as_text(self):
         wanted = """<Decomposition of 6 vertices: 2 bricks, 0 braces>

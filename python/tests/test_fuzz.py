@@ -108,6 +108,13 @@ class Right:
         self.brute = Brute(self.graph.vertices, [edge[:2] for edge in self.graph.edges])
 
     def is_so(self, changed):
+        """Whether it is another right report; a text that cannot be read is none."""
+        try:
+            return self.is_right(changed)
+        except (AttributeError, IndexError, KeyError, TypeError, ValueError, mcg.BadInput):
+            return False
+
+    def is_right(self, changed):
         """Each line but those that FORMATS leaves free is as it was, and what these say is right."""
         if self.command == "ears" and not changed.startswith("covered"):
             return self.ears(changed)
@@ -119,7 +126,8 @@ class Right:
             return False
         row, old = rows[free[0]], before[free[0]]
         if old.startswith("covered no berge"):
-            return re.fullmatch("covered no berge( [1-9][0-9]*)*", row) and self.berge([int(it) for it in row.split()[3:]])
+            is_one = re.fullmatch("covered no berge( [1-9][0-9]*)*", row)
+            return bool(is_one) and self.berge([int(it) for it in row.split()[3:]])
         head, numbers = re.fullmatch("(.* why 4 matching)((?: [1-9][0-9]*)+)", row).groups()
         return old.startswith(head + " ") and self.matching(old, [int(it) for it in numbers.split()])
 

@@ -56,7 +56,7 @@ class Words(unittest.TestCase):
 
     def test_trees(self):
         draw, seen = random.Random(51), {}
-        for graph in covered(51, 60):
+        for graph in covered(51, 30):
             vertices, numbered = graph[0], mcg.Graph(graph)
             tree = mcg.decompose(graph, "last").tree
             trees = [mcg.Leaf()]
@@ -78,7 +78,7 @@ class Words(unittest.TestCase):
 
     def test_ears(self):
         draw, seen = random.Random(52), {}
-        for graph in covered(52, 50):
+        for graph in covered(52, 30):
             for listed in wrong_ears(graph, draw):
                 found = mcg.check_ears(graph, listed)
                 if not found:
@@ -90,7 +90,7 @@ class Words(unittest.TestCase):
 
     def test_moves(self):
         draw, seen = random.Random(53), {}
-        for graph in covered(53, 60):
+        for graph in covered(53, 40):
             vertices, tree = graph[0], mcg.decompose(graph, "last")
             for _ in range(5):
                 path = "".join(draw.choice("km") for _ in range(draw.randrange(3)))

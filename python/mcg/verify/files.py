@@ -43,7 +43,9 @@ def command_of(text: str) -> Tuple[str, List[str]]:
     for pattern, command, files in REPORTS:
         if re.match(f"(?m){pattern}", text):
             return command, files
-    raise BadText("not a report of analyse, decompose, check, ears, checkears, compare, script or replay")
+    raise BadText(
+        "not a report of analyse, decompose, check, ears, checkears, compare, script or replay"
+    )
 
 
 def report(graph_text: str, text: str, *files: str) -> str:
@@ -65,7 +67,9 @@ def report(graph_text: str, text: str, *files: str) -> str:
     if command == "tree":
         due = ["TREE1", "TREE2"][: int(text[len("tree ")])]
     if len(files) < len(due) or (len(files) > len(due) and command not in ("tree", "verdict")):
-        raise BadText(f"a report of {command} is checked with the files {' '.join(due) or 'of the graph and the report alone'}")
+        raise BadText(
+            f"a report of {command} is checked with the files {' '.join(due) or 'of the graph and the report alone'}"
+        )
     rows = CHECKS[command](Graph.from_text(graph_text), text, files)
     if command == "analyse" and is_graph6(graph_text):
         rows.append(f"graph6 {Graph.from_text(graph_text).graph6()}")
@@ -155,7 +159,11 @@ def _replay(graph: Graph, text: str, files: Sequence[str]) -> List[str]:
     tree, listed = Decomposition.from_text(files[0], graph), Moves.from_text(files[1], graph)
     found = Replay.from_text(text, graph)
     moves.replay(graph, tree, listed, found)
-    return lines_of(text) if found.result is None else report_texts.replayed_lines(found.result, len(listed))
+    return (
+        lines_of(text)
+        if found.result is None
+        else report_texts.replayed_lines(found.result, len(listed))
+    )
 
 
 CHECKS: Dict[str, Callable[[Graph, str, Sequence[str]], List[str]]] = {
