@@ -38,7 +38,9 @@ class Block(Stream):
         """Takes at most so many lines, at least one if there is one, and starts the process."""
         taken: List[bytes] = []
         until = time.monotonic() + PATIENCE
-        while self.sent < most and self._size < MOST_BYTES and (not taken or time.monotonic() < until):
+        while (
+            self.sent < most and self._size < MOST_BYTES and (not taken or time.monotonic() < until)
+        ):
             line = self._take()
             if line is None:
                 break
@@ -52,7 +54,9 @@ class Block(Stream):
         if self._process is None or self._process.returncode is not None:
             return False
         try:
-            return os.waitid(os.P_PID, self._process.pid, os.WEXITED | os.WNOWAIT | os.WNOHANG) is None
+            return (
+                os.waitid(os.P_PID, self._process.pid, os.WEXITED | os.WNOWAIT | os.WNOHANG) is None
+            )
         except ChildProcessError:
             return False
 

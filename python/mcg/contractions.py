@@ -44,7 +44,9 @@ class Contraction:
 
     def __repr__(self) -> str:
         sizes = counted(self.given.order, "vertex", "vertices"), counted(self.given.size, "edge")
-        return "<Contraction of {} to {}, {} to {}>".format(sizes[0], self.graph.order, sizes[1], self.graph.size)
+        return "<Contraction of {} to {}, {} to {}>".format(
+            sizes[0], self.graph.order, sizes[1], self.graph.size
+        )
 
     def to_dict(self) -> Dict[str, Any]:
         """Returns the contraction as a dict, by the rules of `mcg.dicts`: `sets` are those that were
@@ -141,14 +143,18 @@ def contracted(graph: Graph, sets: Sequence[FrozenSet[int]]) -> Contraction:
     labels = dict(sorted(named + [(k, graph.label(k)) for k in alone]))
     holder.update((k, k) for k in alone)
     if len(set(labels.values())) < len(labels):
-        raise BadGraph("a new vertex has the label of another vertex: the frozenset of what it holds")
+        raise BadGraph(
+            "a new vertex has the label of another vertex: the frozenset of what it holds"
+        )
     edges = [
         (labels[holder[a]], labels[holder[b]], edge)
         for (a, b), edge in zip(graph.ends, graph.edges)
         if holder[a] != holder[b]
     ]
     image = {label: labels[holder[k]] for k, label in enumerate(graph.vertices, 1)}
-    return Contraction(Graph((list(labels.values()), edges)), [graph.labels(it) for it in sets], image, graph)
+    return Contraction(
+        Graph((list(labels.values()), edges)), [graph.labels(it) for it in sets], image, graph
+    )
 
 
 def retracted_sets(order: int, ends: Sequence[Tuple[int, int]]) -> List[FrozenSet[int]]:
@@ -161,7 +167,9 @@ def retracted_sets(order: int, ends: Sequence[Tuple[int, int]]) -> List[FrozenSe
             if holder[a] != holder[b]:
                 near[holder[a]].append(holder[b])
                 near[holder[b]].append(holder[a])
-        middle = next((k for k in sorted(near) if len(near[k]) == 2 and near[k][0] != near[k][1]), None)
+        middle = next(
+            (k for k in sorted(near) if len(near[k]) == 2 and near[k][0] != near[k][1]), None
+        )
         if middle is None:
             break
         merged = {middle, *near[middle]}

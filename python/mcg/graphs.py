@@ -68,7 +68,9 @@ class Graph:
     def _ends_of(self, edge: Edge) -> Tuple[int, int]:
         for it in edge[:2]:
             if it not in self._numbers:
-                raise BadGraph(f"the edge {shown(edge)}: {shown(it)} is not a vertex", kind=texts.UNNAMED)
+                raise BadGraph(
+                    f"the edge {shown(edge)}: {shown(it)} is not a vertex", kind=texts.UNNAMED
+                )
         if edge[0] == edge[1]:
             raise BadGraph(f"the edge {shown(edge)} is a loop", kind=texts.LOOP)
         return self._numbers[edge[0]], self._numbers[edge[1]]

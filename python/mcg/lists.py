@@ -142,7 +142,9 @@ def _answers(
                     try:
                         answer = read(row, session)
                     except (BadInput, KeyError, IndexError, ValueError) as why:
-                        raise ProgramFailed(f"mcg6 wrote a line that is none of {words[0]}: {row!r}") from why
+                        raise ProgramFailed(
+                            f"mcg6 wrote a line that is none of {words[0]}: {row!r}"
+                        ) from why
                     yield answer
 
 
@@ -188,7 +190,9 @@ def _component(row: bytes, session: Session) -> ListComponent:
 def _labels(sent: Sent, numbers: List[int]) -> Iterator[Any]:
     """The labels of vertices by number; those of a graph in graph6 are 0, 1, .."""
     vertices = (
-        range(graph6.decode(sent.line.decode("ascii"))[0]) if sent.vertices is None else sent.vertices
+        range(graph6.decode(sent.line.decode("ascii"))[0])
+        if sent.vertices is None
+        else sent.vertices
     )
     for k in numbers:
         if k < 1:

@@ -26,7 +26,9 @@ def new_file() -> IO[bytes]:
     try:
         return tempfile.TemporaryFile(buffering=0)
     except FileNotFoundError as why:
-        raise ProgramFailed(f"no temporary file can be made: {why}; make its folder, or set tempfile.tempdir to one") from None
+        raise ProgramFailed(
+            f"no temporary file can be made: {why}; make its folder, or set tempfile.tempdir to one"
+        ) from None
 
 
 def file_of(content: bytes) -> IO[bytes]:
@@ -42,7 +44,9 @@ def file_of(content: bytes) -> IO[bytes]:
 def files_of(texts: Mapping[str, str]) -> Iterator[Dict[str, int]]:
     """Gives, by name, the descriptor of a file with each text, in latin-1, and closes it at the end."""
     with ExitStack() as stack:
-        files = {name: stack.enter_context(file_of(it.encode("latin-1"))) for name, it in texts.items()}
+        files = {
+            name: stack.enter_context(file_of(it.encode("latin-1"))) for name, it in texts.items()
+        }
         yield {name: file.fileno() for name, file in files.items()}
 
 

@@ -25,5 +25,7 @@ def is_petersen(graph: GraphLike) -> bool:
         near[a].add(b)
         near[b].add(a)
     return all(
-        len(near[a] & near[b]) == (3 if a == b else 0 if b in near[a] else 1) for a in near for b in near
+        len(near[a] & near[b]) == (3 if a == b else 0 if b in near[a] else 1)
+        for a in near
+        for b in near
     )

@@ -50,7 +50,9 @@ def started(name: str, words: Sequence[str], **how: Any) -> subprocess.Popen[byt
     path = program(name)
     if signal.getsignal(signal.SIGCHLD) is signal.SIG_IGN:
         advice = "call signal.signal(signal.SIGCHLD, signal.SIG_DFL) before"
-        raise ProgramFailed(f"the signal SIGCHLD is ignored, so the exit status of {name} would be lost; {advice}")
+        raise ProgramFailed(
+            f"the signal SIGCHLD is ignored, so the exit status of {name} would be lost; {advice}"
+        )
     try:
         return subprocess.Popen([path, *words], env=environment(), **how)
     except OSError as why:
@@ -111,7 +113,9 @@ def _bad_file(report: List[str], names: List[str]) -> BadInput:
     made: Type[BadInput] = BadText
     if place == 1:
         made = TooLarge if kind == LIMIT else BadGraph
-    return made(f"the {names[place - 1]} is outside its format: {FAULTS.get(kind, 'an error')}", line, kind)
+    return made(
+        f"the {names[place - 1]} is outside its format: {FAULTS.get(kind, 'an error')}", line, kind
+    )
 
 
 @contextmanager
@@ -130,7 +134,9 @@ def reported(command: str, status: Optional[int] = None) -> Iterator[None]:
     try:
         yield
     except (BadText, KeyError, IndexError, ValueError) as why:
-        raise ProgramFailed(f"the program did not write a report of {command} on this graph", status) from why
+        raise ProgramFailed(
+            f"the program did not write a report of {command} on this graph", status
+        ) from why
 
 
 def run(command: str, words: List[str], files: Dict[str, str]) -> Tuple[int, List[str]]:
@@ -140,7 +146,11 @@ def run(command: str, words: List[str], files: Dict[str, str]) -> Tuple[int, Lis
     `BadText` for a file outside its format, and `OutOfMemory`, `ProgramMissing` or
     `ProgramFailed`.
     """
-    pipes: Dict[str, Any] = {"stdin": subprocess.DEVNULL, "stdout": subprocess.PIPE, "stderr": subprocess.PIPE}
+    pipes: Dict[str, Any] = {
+        "stdin": subprocess.DEVNULL,
+        "stdout": subprocess.PIPE,
+        "stderr": subprocess.PIPE,
+    }
     with files_of(files) as open_files:
         paths = {name: path_of(descriptor) for name, descriptor in open_files.items()}
         pipes["pass_fds"] = list(open_files.values())

@@ -4,7 +4,20 @@ from __future__ import annotations
 from collections import deque
 from contextlib import closing
 from itertools import islice
-from typing import Any, Deque, Dict, Generator, Iterable, Iterator, List, NamedTuple, Optional, Sequence, Tuple, Type
+from typing import (
+    Any,
+    Deque,
+    Dict,
+    Generator,
+    Iterable,
+    Iterator,
+    List,
+    NamedTuple,
+    Optional,
+    Sequence,
+    Tuple,
+    Type,
+)
 
 from . import graph6
 from .errors import LIMIT, BadGraph, BadInput, TooLarge
@@ -38,7 +51,11 @@ class Session:
     sends_by: Type[Stream] = Stream
 
     def __init__(
-        self, words: Sequence[str], graphs: Iterable[Any], skipped: Optional[List[BadInput]], before: int = 0
+        self,
+        words: Sequence[str],
+        graphs: Iterable[Any],
+        skipped: Optional[List[BadInput]],
+        before: int = 0,
     ) -> None:
         self.graphs, self.skipped, self.before, self.count = graphs, skipped, before, 0
         self.stream = self.sends_by(words, self._lines(), skipped is not None, before)
@@ -70,7 +87,9 @@ class Session:
         with closing(iter(self.stream)) as rows:
             yield from rows
         if self.skipped is not None:
-            self.skipped += [self.faults.get(it) or fault for it, fault in sorted(self.stream.bad.items())]
+            self.skipped += [
+                self.faults.get(it) or fault for it, fault in sorted(self.stream.bad.items())
+            ]
 
     def text_of(self, line: bytes) -> Sent:
         """The next graph that was sent with this line: the lines that come back are some of those
@@ -92,7 +111,10 @@ class Session:
 
 
 def one_by_one(
-    words: Sequence[str], graphs: Iterable[Any], skipped: Optional[List[BadInput]], most: Optional[int]
+    words: Sequence[str],
+    graphs: Iterable[Any],
+    skipped: Optional[List[BadInput]],
+    most: Optional[int],
 ) -> Generator[Session, None, None]:
     """Yields the sessions of a list, each with so many graphs, or one for all if that is None. Each
     is to be used up before the next is taken."""
@@ -118,7 +140,9 @@ def demand_list(graphs: Any, skipped: Any, processes: Any) -> None:
     if isinstance(graphs, Graph) or hasattr(graphs, "is_directed"):
         raise TypeError(advice)
     if skipped is not None and not isinstance(skipped, list):
-        raise TypeError(f"skipped is a list, to which the exceptions are appended, and not {skipped!r}")
+        raise TypeError(
+            f"skipped is a list, to which the exceptions are appended, and not {skipped!r}"
+        )
     iter(graphs)
 
 

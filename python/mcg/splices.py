@@ -78,7 +78,9 @@ def splice(
                 edges.append(((side, edge[0]), (side, edge[1]), (side, edge)))
     for k, image in images.items():
         e, f = one.edge(k), other.edge(image)
-        edges.append(((0, _across(one, k, places[0])), (1, _across(other, image, places[1])), (e, f)))
+        edges.append(
+            ((0, _across(one, k, places[0])), (1, _across(other, image, places[1])), (e, f))
+        )
     return Graph((vertices, edges))
 
 

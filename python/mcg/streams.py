@@ -36,7 +36,9 @@ class Stream:
     were sent through other processes.
     """
 
-    def __init__(self, words: Sequence[str], lines: Iterator[bytes], skips: bool = False, before: int = 0) -> None:
+    def __init__(
+        self, words: Sequence[str], lines: Iterator[bytes], skips: bool = False, before: int = 0
+    ) -> None:
         self.words, self.lines = [*words, *(["skip"] if skips else [])], lines
         self.skips, self.before = skips, before
         self.bad: Dict[int, BadGraph] = {}
@@ -173,7 +175,9 @@ class Stream:
         if line is None:
             return made("a graph of the list is not in graph6", None, kind)
         number = line + self.before
-        return made(f"graph {number} of the list is not in graph6: {what}".rstrip(": "), number, kind)
+        return made(
+            f"graph {number} of the list is not in graph6: {what}".rstrip(": "), number, kind
+        )
 
 
 def stop(process: subprocess.Popen[bytes]) -> None:

@@ -83,7 +83,9 @@ class Leaf:
         each of those is an edge, and its own label. Needs Sage."""
         pairs = [(tuple(pair), edges) for pair, edges in self.edges.items()]
         if multigraph:
-            return sage_graph(self.blocks, [(a, b, it) for (a, b), edges in pairs for it in edges], True)
+            return sage_graph(
+                self.blocks, [(a, b, it) for (a, b), edges in pairs for it in edges], True
+            )
         return sage_graph(self.blocks, [(a, b, tuple(edges)) for (a, b), edges in pairs], False)
 
     def graph6(self) -> str:
