@@ -17,6 +17,7 @@ pub mod ContractedMatchings
 pub mod CubicGraphs
 pub mod DisjointEars
 pub mod DoneRuns
+pub mod IdleStates
 pub mod InstalledRuns
 pub mod EarCounts
 pub mod EarPaths
