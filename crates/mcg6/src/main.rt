@@ -7,28 +7,9 @@
 //! 7, which no status has, for a word that is not UTF-8.
 #![tactic(auto)]
 
-use arguments::read_arguments;
-use mcg6_top::{CommandLine, run};
-use outside::{InSource, OutSink};
-use std::fs;
+use mcg6_top::program;
 use std::process::ExitCode;
 
 fn main(rt: HostRuntime) -> ExitCode {
-    let read = match read_arguments(&rt, rt.alloc()) {
-        Ok(read) => read,
-        Err(refusal) => return ExitCode::from(refusal.code()),
-    };
-    let line = CommandLine::of(&read.words);
-    let mut sink = OutSink::new(&rt);
-    let status = match line.file() {
-        Some(name) => {
-            let mut source = InSource::new(fs::open(&rt, name).ok());
-            run(rt.alloc(), &line, &mut source, &mut sink)
-        }
-        None => {
-            let mut source = InSource::new(Some(rt.reader()));
-            run(rt.alloc(), &line, &mut source, &mut sink)
-        }
-    };
-    ExitCode::from(status.code())
+    ExitCode::from(program(&rt, rt.alloc()).code)
 }

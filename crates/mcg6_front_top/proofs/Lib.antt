@@ -1,3 +1,6 @@
 pub mod EachRun
 pub mod TableRows
 pub mod SkippedLines
+pub mod MessageLines
+pub mod SaidWhole
+pub mod Reported

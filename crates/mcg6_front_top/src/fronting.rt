@@ -6,7 +6,7 @@ use crate::clues::Clues;
 use crate::ending::{ListFrontEnding, Message};
 use crate::speaking::status_in;
 use front_words::{Program, answer, answer_of};
-use mcg6_encoder::outside::{FailureReason, Outlet, Source};
+use mcg6_encoder::outside::{Inlet, Outlet};
 use mcg6_top::{CommandLine, ListStatus, RunEnd, run_to_ending};
 use std::alloc::Global;
 
@@ -42,13 +42,11 @@ fn message_on_run<'a>(end: Option<RunEnd<'a>>, is_quiet: bool) -> Message<'a>
 /// what is to be said of it, unless it is to be quiet. Words that ask for the usage or the version
 /// are answered on the sink, and nothing is read.
 ///
-/// Nothing is said yet: `ListFrontEnding::say` does that, which takes the sink for it. The reason
-/// is why the file cannot be read, where the caller knows that. What the call makes of source and
-/// sink is `ListFronts`, a record with a line on each of its fields.
-pub fn run_list_front<'a, 'b, S: Source, K: Outlet>(
+/// Nothing is said yet: `ListFrontEnding::say` does that, which takes the sink for it. What the call
+/// makes of source and sink is `ListFronts`, a record with a line on each of its fields.
+pub fn run_list_front<'a, 'b, S: Inlet, K: Outlet>(
     alloc: Global,
     line: &'b CommandLine<'a>,
-    reason: Option<FailureReason>,
     is_quiet: bool,
     source: &mut S,
     sink: &mut K,
@@ -56,9 +54,9 @@ pub fn run_list_front<'a, 'b, S: Source, K: Outlet>(
     ensures fronts { ListFronts S.left S.faults S.reads K.written K.writes K.faults line.now
         is_quiet result.clues.is_abandoned result.status result.message source.old source.new
         sink.old sink.new }
-    // What is said is said of these words, of this reason and of this sink.
+    // What is said is said of these words, of this source and of this sink.
     ensures words { result.line.now ≡ line.now }
-    ensures reason { result.clues.reason ≡ reason }
+    ensures reason { result.clues.reason ≡ S.reason source.new }
     ensures is_abandoned { result.clues.is_abandoned ≡ K.is_abandoned sink.new }
 {
     match answer_of(Program::Mcg6, line.words()) {
@@ -70,7 +68,7 @@ pub fn run_list_front<'a, 'b, S: Source, K: Outlet>(
                 message: message_on_answer(status, is_quiet, is_abandoned),
                 line,
                 clues: Clues {
-                    reason,
+                    reason: source.reason(),
                     is_abandoned,
                 },
             }
@@ -82,7 +80,7 @@ pub fn run_list_front<'a, 'b, S: Source, K: Outlet>(
                 message: message_on_run(end, is_quiet),
                 line,
                 clues: Clues {
-                    reason,
+                    reason: source.reason(),
                     is_abandoned: sink.is_abandoned(),
                 },
             }

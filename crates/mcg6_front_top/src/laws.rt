@@ -1,5 +1,12 @@
-//! The law of the table of commands. It is the contract of a function that does nothing.
-ghost use Rattle.std.specs.Prelude.{◌≡◌, ℕ, List, is_some};
+//! The law of the table of commands, and two of what is said. Each is the contract of a function
+//! that does nothing.
+ghost use Rattle.std.specs.Prelude.{◌≡◌, ◌++◌, ℕ, List, [], is_some};
+ghost use Rattle.front_words.specs.Saying.{WritesWhole};
+ghost use Rattle.mcg6_encoder.specs.from_outside.Common.{HasSaid, LineState};
+ghost use Rattle.mcg6_top.specs.from_mcg6_reader.Lines.{IsClosedText};
+ghost use Rattle.mcg6_front_top.specs.Words.{message_words};
+ghost use Rattle.mcg6_front_top.specs.declared.clues.Clues.{Clues};
+ghost use Rattle.mcg6_front_top.specs.declared.ending.Message.{Message};
 ghost use Rattle.front_words.specs.from_command_table.Rows.{matches_a_row};
 ghost use Rattle.front_words.specs.from_command_table.Table.{list_rows};
 ghost use Rattle.mcg6_top.specs.Common.{command_of};
@@ -8,4 +15,18 @@ ghost use Rattle.mcg6_top.specs.Common.{command_of};
 /// of a list, or for the graph6 text of a graph file.
 pub fn list_table_law()
     ensures { (words : List (List ℕ)) → is_some (command_of words) ≡ matches_a_row list_rows words }
+{}
+
+/// A message ends with a line feed, or it is empty.
+pub fn message_law()
+    ensures { (words : List (List ℕ)) (said : Message) (clues : Clues) →
+        IsClosedText (message_words words said clues) }
+{}
+
+/// Of a text that ends with a line feed, or is empty, and was said whole to a stream of lines that
+/// held nothing, the stream holds nothing: it took just the text.
+pub fn said_law()
+    ensures { (text : List ℕ) (first last : LineState) → WritesWhole HasSaid text first last →
+        IsClosedText text → first.held ≡ [] →
+        (last.held ≡ []) × (last.printed ≡ first.printed ++ text) }
 {}

@@ -1,6 +1,7 @@
 //! The top call of the program `mcg6_front`: `run_list_front` does what the words of the
 //! command line ask for, as `run` of `mcg6_top`, and returns what is to be said of how that ended,
-//! for a person. `say` of `ListFrontEnding` says it afterwards.
+//! for a person. `say` of `ListFrontEnding` says it afterwards. `program` is the whole program:
+//! `EndsOn` says what it was given, what it printed, its exit status, and the message.
 //!
 //! `--help`, `-h`, `help` and `--version`, alone, and what asks for the page of a command, `--help`
 //! after it or one of the first three before it, are answered on standard output, and nothing is
@@ -18,6 +19,7 @@
 mod clues;
 mod ending;
 mod fronting;
+mod installed;
 mod laws;
 mod skipping;
 mod speaking;
@@ -25,5 +27,6 @@ mod speaking;
 // Passed on to the crates above.
 pub use ending::{ListFrontEnding, Message};
 pub use fronting::run_list_front;
-pub use laws::list_table_law;
+pub use installed::{ProgramEnd, program};
+pub use laws::{list_table_law, message_law, said_law};
 pub use mcg6_top;

@@ -6,9 +6,9 @@ use Rattle.mcg6_lines.specs.declared.query.Query.{Query}
 use Rattle.mcg6_reader.specs.declared.ending.Ending.{Ending}
 use Rattle.mcg6_reader.specs.declared.ending.Ending.TheVariants.{Done, Bad, ReadFault, WriteFault, Memory}
 use Rattle.mcg6_reader.specs.declared.ending.BadLine.{BadLine}
-use Rattle.mcg6_reader.specs.Common.{lines_of, first_place, Appended, Reports, TellsList}
+use Rattle.mcg6_reader.specs.Common.{lines_of, first_place, Appended, Reports, TellsList, TellsRead}
 use Rattle.mcg6_top.proofs.Skipping.{added_whole, all_plain}
-use Rattle.mcg6_top.specs.Common.{Command, Answer, Encode, ListCommand, ListRuns, ListRunsTo, AnswersList, command_of, list_asked, TellsOrSkips, ListStopsAt, SkipsLine, lacks_of, EndsWith, SkipsUpTo, ListOutcome, TellsSome, status_in, status_after, status_encoded, EncodeOutcome, EncodesSome}
+use Rattle.mcg6_top.specs.Common.{Command, Answer, Encode, ListCommand, ListRuns, ListRunsTo, AnswersList, command_of, list_asked, TellsOrSkips, ListStopsAt, SkipsLine, lacks_of, EndsWith, SkipsUpTo, ListOutcome, OutcomeOfRead, TellsSome, status_in, status_after, status_encoded, EncodeOutcome, EncodesSome}
 use Rattle.mcg6_top.specs.declared.command.AtBadLine.{AtBadLine}
 use Rattle.mcg6_top.specs.declared.status.ListEnd.{ListEnd}
 use Rattle.mcg6_top.specs.declared.status.RunEnd.{RunEnd}
@@ -57,6 +57,20 @@ tells_some query at_bad ending skipped left before now list = record {
   outcome =
       appended_outcome query at_bad list.bytes ending skipped before now list.gives
       (added_whole (SkipsUpTo query at_bad list.bytes ending) skipped list.reported);
+}
+
+-- and of what was read
+pub outcome_of_read :
+    {S : Type 0} (query : Query) (at_bad : AtBadLine) (ending : Ending) (skipped : List BadLine) (reads : S → Option (List ℕ) → S → Type 0) (first last : S) (before now : Option (List ℕ)) →
+    TellsRead (TellsOrSkips query at_bad) (ListStopsAt query at_bad) (lacks_of query) (Reports (SkipsLine query at_bad)) reads ending first last before now [] skipped →
+    OutcomeOfRead query at_bad reads (status_after ending skipped) first last before now
+outcome_of_read query at_bad ending skipped reads first last before now told = record {
+  bytes = told.bytes;
+  count = told.count;
+  gave = told.gave;
+  outcome =
+      appended_outcome query at_bad told.bytes ending skipped before now told.gives
+      (added_whole (SkipsUpTo query at_bad told.bytes ending) skipped told.reported);
 }
 
 encode_outcome_of_ending :
@@ -165,6 +179,7 @@ module _ {S K : Type 0} (left : S → Option (List ℕ)) (faults : S → ℕ) (r
         write_fault = λ e. cc e;
         outcome = λ command bytes is told. absurd (no_command (Answer command) is);
         tells = λ command is. absurd (no_command (Answer command) is);
+        from_read = λ command is. absurd (no_command (Answer command) is);
         torn = λ command is fault. absurd (no_command (Answer command) is);
         streams = λ command is. absurd (no_command (Answer command) is);
         encodes = λ name file is told. absurd (no_command (Encode name) is);
@@ -187,6 +202,8 @@ module _ {S K : Type 0} (left : S → Option (List ℕ)) (faults : S → ℕ) (r
             appended_outcome command.query command.at_bad bytes end.ending end.skipped.items (written before) (written now) (told_list.outcome bytes told) (told_list.skips bytes told);
         tells = λ command is.
             tells_some command.query command.at_bad end.ending end.skipped.items (left first) (written before) (written now) (of command is).tells;
+        from_read = λ command is.
+            outcome_of_read command.query command.at_bad end.ending end.skipped.items reads first last (written before) (written now) (of command is).from_read;
         torn = λ command is fault. (of command is).torn (read_of end.ending end.skipped.items fault);
         streams = λ command is.
             let told_list = of command is in
@@ -208,6 +225,7 @@ module _ {S K : Type 0} (left : S → Option (List ℕ)) (faults : S → ℕ) (r
         write_fault = λ e. answers.write_fault (write_of-file ending e);
         outcome = λ command bytes is told. absurd (no_list command is);
         tells = λ command is. absurd (no_list command is);
+        from_read = λ command is. absurd (no_list command is);
         torn = λ command is fault. absurd (no_list command is);
         streams = λ command is. absurd (no_list command is);
         encodes = λ name bytes is told. appended_encoding bytes ending (written before) (written now) (answers.encodes bytes told);

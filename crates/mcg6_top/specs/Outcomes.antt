@@ -7,7 +7,7 @@ use Rattle.line_text.specs.declared.faults.FaultKind.{FaultKind}
 use Rattle.mcg6_reader.specs.declared.ending.Ending.{Ending}
 use Rattle.mcg6_reader.specs.declared.ending.Ending.TheVariants as ending
 use Rattle.mcg6_reader.specs.declared.place.LinePlace.{LinePlace}
-use Rattle.mcg6_reader.specs.Common.{lines_of, AllTold, BeginningTold, Reported, Reports, WholeTold, ToldToBad, CutShort, Appended, GivesOutput, IsKnownLeft, first_place, IsStream}
+use Rattle.mcg6_reader.specs.Common.{lines_of, AllTold, BeginningTold, Reported, Reports, WholeTold, ToldToBad, CutShort, Appended, GivesOutput, IsKnownLeft, ReadsGave, first_place, IsStream}
 use Rattle.mcg6_top.specs.Listings.{IsBadLine, TellsLineOf, TellsOrSkips, ListStopsAt, SkipsLine, lacks_of}
 use Rattle.mcg6_top.specs.Statuses.{status_after}
 use Rattle.mcg6_top.specs.declared.command.AtBadLine.{AtBadLine}
@@ -53,6 +53,13 @@ ListOutcome query at_bad bytes Memory output = BeginningTold (TellsOrSkips query
 pub record TellsSome (query : Query) (at_bad : AtBadLine) (status : ListStatus) (left before now : Option (List ℕ)) : Type 0 where
   pub bytes : List ℕ
   pub is_left : IsKnownLeft left bytes
+  pub outcome : Appended (ListOutcome query at_bad bytes status) before now
+
+-- the reads of the source returned these bytes, and what was written is their outcome as a list
+pub record OutcomeOfRead {S : Type 0} (query : Query) (at_bad : AtBadLine) (reads : S → Option (List ℕ) → S → Type 0) (status : ListStatus) (first last : S) (before now : Option (List ℕ)) : Type 0 where
+  pub bytes : List ℕ
+  pub count : ℕ
+  pub gave : ReadsGave reads count bytes first last
   pub outcome : Appended (ListOutcome query at_bad bytes status) before now
 
 -- the list was answered while it was read, up to this ending

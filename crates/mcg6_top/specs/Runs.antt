@@ -3,7 +3,7 @@
 -- Stated by: mcg6_top. Used by: mcg6_front_top.
 use Rattle.std.specs.Prelude.{◌≡◌, ◌↔◌, ℕ, List, [], Option, Some, None}
 use Rattle.mcg6_encoder.specs.from_outside.Common.{Rose}
-use Rattle.mcg6_reader.specs.Common.{Appended, ReadsTold, Reports, TellsList}
+use Rattle.mcg6_reader.specs.Common.{Appended, ReadsTold, Reports, TellsList, TellsRead}
 use Rattle.mcg6_reader.specs.declared.ending.Ending.TheVariants as ending
 use Rattle.mcg6_encoder.specs.declared.ending.EncodeEnding.{EncodeEnding}
 use Rattle.mcg6_encoder.specs.declared.ending.EncodeEnding.TheVariants as encoding
@@ -13,7 +13,7 @@ use Rattle.mcg6_top.specs.Asked.{list_asked}
 use Rattle.mcg6_top.specs.Commands.{Command, ListCommand, Answer, Encode, command_of}
 use Rattle.mcg6_top.specs.Encodings.{EncodeOutcome, EncodesSome, ReadsFirstTo}
 use Rattle.mcg6_top.specs.Listings.{TellsOrSkips, ListStopsAt, SkipsLine, lacks_of}
-use Rattle.mcg6_top.specs.Outcomes.{EndsWith, SkipsUpTo, ListOutcome, Streams, StreamsTo, TellsSome}
+use Rattle.mcg6_top.specs.Outcomes.{EndsWith, SkipsUpTo, ListOutcome, OutcomeOfRead, Streams, StreamsTo, TellsSome}
 use Rattle.mcg6_lines.specs.declared.query.Query.{Query}
 use Rattle.mcg6_top.specs.declared.command.AtBadLine.{AtBadLine}
 use Rattle.mcg6_top.specs.declared.command.AtBadLine.TheVariants.{Stop}
@@ -41,6 +41,9 @@ pub record ListRuns {S K : Type 0} (left : S → Option (List ℕ)) (faults : S 
   -- if what is left of the source is not known, it is what they ask of the lines of some list
   pub tells : (command : ListCommand) → command_of words ≡ Some (Answer command)
       → TellsSome command.query command.at_bad ended (left first) (written before) (written now)
+  -- whatever the source makes known, it is what they ask of the lines of what was read
+  pub from_read : (command : ListCommand) → command_of words ≡ Some (Answer command)
+      → OutcomeOfRead command.query command.at_bad reads ended first last (written before) (written now)
   -- where the source fails, each whole line of what was read is told and written
   pub torn : (command : ListCommand) → command_of words ≡ Some (Answer command) → ended ≡ ReadFault
       → Appended (ReadsTold (TellsOrSkips command.query command.at_bad) (left first) (left last)) (written before) (written now)
@@ -75,6 +78,9 @@ pub record AnswersList {S K : Type 0} (query : Query) (at_bad : AtBadLine) (left
   -- if what is left of the source is not known, it is what is asked of the lines of some list, and
   -- the reports are on the same lines
   pub tells : TellsList (TellsOrSkips query at_bad) (ListStopsAt query at_bad) (lacks_of query) (Reports (SkipsLine query at_bad)) ended.ending (left first)
+      (written before) (written now) [] ended.skipped.items
+  -- whatever the source makes known, both are those of the lines of what was read
+  pub from_read : TellsRead (TellsOrSkips query at_bad) (ListStopsAt query at_bad) (lacks_of query) (Reports (SkipsLine query at_bad)) reads ended.ending first last
       (written before) (written now) [] ended.skipped.items
   -- where the source fails, each whole line of what was read is told and written
   pub torn : ended.ending ≡ ending.ReadFault → Appended (ReadsTold (TellsOrSkips query at_bad) (left first) (left last)) (written before) (written now)

@@ -10,12 +10,14 @@
 //! `IsBadLine` (what answers one line), `lacks_of` (what a list lacks), and `ListOutcome` and
 //! `EncodeOutcome`, which tie the bytes that are read, the status and the output together.
 //! `run_to_ending` also returns what is found of the first bad line; one list has one status and
-//! one output, unless memory runs out or reading or writing fails (`one_output_law`). Depends on
-//! `mcg6_lines`, `mcg6_reader`, `mcg6_encoder`, `line_text` for numbers, and `outside` for the
-//! source and the sink.
+//! one output, unless memory runs out or reading or writing fails (`one_output_law`). `program` is
+//! the whole program: `EndsOn` says what it was given, what it printed, and its exit status. Depends
+//! on `mcg6_lines`, `mcg6_reader`, `mcg6_encoder`, `line_text` for numbers, `arguments`, and
+//! `outside` for the source and the sink.
 #![tactic(auto)]
 
 mod command;
+mod installed;
 mod laws;
 mod line;
 mod lister;
@@ -24,6 +26,7 @@ mod running;
 mod status;
 
 pub use command::{AtBadLine, Command, ListCommand};
+pub use installed::{ProgramEnd, program};
 pub use laws::{one_line_law, one_output_law, split_law};
 pub use line::CommandLine;
 pub use running::{run, run_to_ending};

@@ -20,6 +20,7 @@ pub mod DisjointEars
 pub mod DoneRuns
 pub mod ElpCuts
 pub mod HallMatchings
+pub mod IdleStates
 pub mod InstalledRuns
 pub mod EarCounts
 pub mod EarPaths

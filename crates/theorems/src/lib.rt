@@ -25,6 +25,7 @@ mod ears;
 mod elementary;
 mod extendable;
 mod installed;
+mod installed_lists;
 mod matchings;
 mod outcomes;
 mod program;
@@ -47,6 +48,7 @@ pub use ears::{
 pub use elementary::elementary_components_law;
 pub use extendable::extendable_law;
 pub use installed::installed_runs_law;
+pub use installed_lists::{idle_law, installed_lists_law};
 pub use matchings::{berge_law, gallai_edmonds_law, gallai_lemma_law, tutte_law};
 pub use outcomes::{done_runs_law, headline_law, list_outcome_exists_law, report_exists_law};
 pub use program::{

@@ -1,6 +1,6 @@
 //! What is read through a source: each form is used once, and the form of the runtime meets a
 //! real file.
-use outside::{InSource, MemSink, MemSource, Source, SourceFailed, emit};
+use outside::{InSource, MemSink, MemSource, Source, SourceFailed, TracedReader, emit};
 use std::alloc::{AllocError as Memory, Global};
 use std::fs;
 use std::test::Fail;
@@ -50,14 +50,14 @@ fn mem_source_gives_its_portions(rt: HostRuntime) -> Result<(), Fail> {
 fn in_source_reads_a_file(rt: HostRuntime) -> Result<(), Fail> {
     let name = "in_source_reads_a_file.g6";
     fs::write(&rt, name, b"C~\nA_\n".as_slice())?;
-    let mut source = InSource::new(fs::open(&rt, name).ok());
+    let mut source = InSource::new(TracedReader::open(&rt, Some(name)));
     let whole = gives(&mut source, 8, Ok(b"C~\nA_\n"));
     let end = gives(&mut source, 8, Ok(b""));
     fs::remove_file(&rt, name)?;
     assert!(rt; whole && end);
     // a file that is gone, and a folder, which is opened, but not read
     for name in [name, "."] {
-        let mut refused = InSource::new(fs::open(&rt, name).ok());
+        let mut refused = InSource::new(TracedReader::open(&rt, Some(name)));
         assert!(rt; gives(&mut refused, 8, Err(SourceFailed)));
     }
     Ok(())
