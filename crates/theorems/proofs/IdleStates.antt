@@ -5,9 +5,8 @@ use Rattle.bench_top.specs.from_outside.Common.{HasPrinted, HasTaken, IsOpened, 
 
 nothing-behind : {X : Type 0} (front back : List X) → front ≡ front ++ back → 0 < length back → ⊥
 nothing-behind front back same some =
-    let long = ap length same ∙ length-append front back in
-    let no : 0 ≡ 1 = omega (arith, long, some) in
-    cc no
+    let long : length front ≡ length front + length back = ap length same ∙ length-append front back in
+    absurd (omega (arith, long, some))
 
 pub shelf-moves : (state : OpenState) (name bytes : List ℕ) → IsOpened state name (Ok bytes) state → ⊥
 shelf-moves state name bytes opened = nothing-behind state.given ((name, bytes) ∷ []) opened.given (omega arith)
