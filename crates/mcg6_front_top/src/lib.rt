@@ -29,4 +29,3 @@ pub use ending::{ListFrontEnding, Message};
 pub use fronting::run_list_front;
 pub use installed::{ProgramEnd, program};
 pub use laws::{list_table_law, message_law, said_law};
-pub use mcg6_top;

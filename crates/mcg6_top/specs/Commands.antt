@@ -1,5 +1,5 @@
 -- What the words ask for: one case for each row of the table of words.
--- Stated by: mcg6_top, mcg6_front_top.
+-- Stated by: mcg6_top, mcg6_front_top, theorems.
 use Rattle.std.specs.Prelude.{ℕ, ◌&&◌, Bool, true, false, List, [], ◌∷◌, drop, nat_eq, codes, if◌then◌else◌, Option, Some, None, bytes_eq}
 use Rattle.std.specs.List.{starts_with}
 use Rattle.std.specs.Option.{option_map, option_or}

@@ -1,6 +1,6 @@
 -- What a run makes of a source and a sink, as one fact: `run`, `run_to_ending` and the front cite
 -- it.
--- Stated by: mcg6_top. Used by: mcg6_front_top.
+-- Stated by: mcg6_top, theorems. Used by: mcg6_front_top.
 use Rattle.std.specs.Prelude.{◌≡◌, ◌↔◌, ℕ, List, [], Option, Some, None}
 use Rattle.mcg6_encoder.specs.from_outside.Common.{Rose}
 use Rattle.mcg6_reader.specs.Common.{Appended, ReadsTold, Reports, TellsList, TellsRead}
