@@ -267,7 +267,8 @@ class TestMeaning(unittest.TestCase):
         from mcg.draw.plain import PlainGraph
 
         count = 0
-        for graph in drawn(11, 60, parallel=False):
+        stars = [[(f"a{i}", f"d{j}") for i in range(k) for j in range(k + more)] for k in (1, 2, 3) for more in (1, 2, 3)]
+        for graph in [*drawn(11, 20, parallel=False), *stars]:
             report, numbered = mcg.analyse(graph), mcg.Graph(graph)
             if not (report.D and report.A):
                 continue
@@ -277,7 +278,7 @@ class TestMeaning(unittest.TestCase):
             self.assertTrue(all(p[c][0] < p[d][0] for c in C for d in D), "C is left of D")
             self.assertEqual(sorted(v for part in parts for v in part), sorted(D))
             count += 1
-        self.assertGreater(count, 5)
+        self.assertGreater(count, 8)
         with self.assertRaises(ValueError):
             mcg.draw.draw(example("k4"), layout="gallai-edmonds")
 

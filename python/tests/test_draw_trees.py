@@ -118,6 +118,8 @@ class TestEars(unittest.TestCase):
             for at in range(len(steps)):
                 look = step_look(plain, steps, at, plain.names)
                 seen += [k for k, pen in look.pens.items() if pen.width == style.EDGE_NEW]
+                pale = {k for k, pen in look.pens.items() if pen.stroke == style.GHOST}
+                self.assertEqual(pale, set(range(made.size)) - set(seen))
                 count += 1
             self.assertEqual(sorted(seen), list(range(made.size)))
         self.assertGreater(count, 35)
