@@ -89,7 +89,7 @@ class Words(unittest.TestCase):
         print(f"words of ears compared: {sum(seen.values())}")
 
     def test_moves(self):
-        draw, seen = random.Random(53), {}
+        draw, seen, stuck = random.Random(53), {}, set()
         for graph in covered(53, 40):
             vertices, tree = graph[0], mcg.decompose(graph, "last")
             for _ in range(5):
@@ -98,10 +98,12 @@ class Words(unittest.TestCase):
                 moves = mcg.Moves([draw.choice([mcg.Rotate(path), mcg.Switch(path, *sets), mcg.Switch("", *sets)])])
                 found = mcg.replay(graph, tree, moves)
                 if not found:
+                    stuck.add(found.stuck)
                     with self.subTest(graph=graph, moves=moves):
                         key = self.compare("replay", graph, found, tree=tree.to_text(), moves=moves.to_text(graph))
                         seen[key] = seen.get(key, 0) + 1
-        self.assertGreaterEqual(len(seen), 4)
+        self.assertGreaterEqual(len(seen), 3)
+        self.assertEqual(stuck, {None, "no cut", "not parts"})  # (no shores of a decomposition cross)
         print(f"words of moves compared: {sum(seen.values())}")
 
     def test_graphs_that_are_not_covered(self):
