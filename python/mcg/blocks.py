@@ -33,6 +33,7 @@ class Block(Stream):
     _process: Optional[subprocess.Popen[bytes]] = None
     _files: Sequence[IO[bytes]] = ()
     _size = 0
+    _status: Optional[int] = None
 
     def start(self, most: int) -> None:
         """Takes at most so many lines, at least one if there is one, and starts the process."""
@@ -65,12 +66,13 @@ class Block(Stream):
         If other threads wait for processes of theirs, those can be counted too."""
         assert self._process
         before = _children()
-        status_of("mcg6", self._process)
+        self._status = status_of("mcg6", self._process)
         return _children() - before
 
     def __iter__(self) -> Generator[bytes, None, None]:
-        assert self._process
-        status = status_of("mcg6", self._process)
+        if self._status is None:
+            self.wait()
+        assert self._status is not None
         source, drain, said = self._files
         self._is_open = False
         self._ended_early = os.lseek(source.fileno(), 0, os.SEEK_CUR) < self._size
@@ -79,7 +81,7 @@ class Block(Stream):
             for line in self._whole_lines(piece):
                 self.yielded += 1
                 yield line
-        self._end(status, said)
+        self._end(self._status, said)
 
     def close(self) -> None:
         """Ends the process if it still runs, and closes its files."""

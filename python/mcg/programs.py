@@ -64,13 +64,17 @@ def started(name: str, words: Sequence[str], **how: Any) -> subprocess.Popen[byt
 def status_of(name: str, process: subprocess.Popen[bytes]) -> int:
     """Waits for the end of a program, and returns its exit status. Raises `ProgramFailed` if this
     was taken by somebody else, for which `subprocess` would return 0."""
-    if process.returncode is None:
-        try:
-            os.waitid(os.P_PID, process.pid, os.WEXITED | os.WNOWAIT)
-        except ChildProcessError:
-            what = "something in this process waits for all children, such as os.wait() in a handler of SIGCHLD"
-            raise ProgramFailed(f"the exit status of {name} was lost: {what}") from None
-    return process.wait()
+    if process.returncode is not None:
+        return process.returncode
+    try:
+        found = os.waitid(os.P_PID, process.pid, os.WEXITED | os.WNOWAIT)
+    except ChildProcessError:
+        found = None
+    process.wait()  # (a handler of signals can have run in between, and have taken the status)
+    if found is None:
+        what = "something in this process waits for all children, such as os.wait() in a handler of SIGCHLD"
+        raise ProgramFailed(f"the exit status of {name} was lost: {what}")
+    return found.si_status if found.si_code == os.CLD_EXITED else -found.si_status
 
 
 def ended(name: str, status: int, words: str) -> Exception:

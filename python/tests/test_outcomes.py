@@ -56,9 +56,11 @@ class Statuses(unittest.TestCase):
         try:
             with tempfile.TemporaryDirectory() as folder, program_of(folder, "cat >/dev/null; exit 6"):
                 for name, call in LISTS.items():
-                    with self.subTest(call=name), self.assertRaises(mcg.ProgramFailed) as raised:
+                    # (whether the handler or the package comes first is a matter of chance)
+                    with self.subTest(call=name), self.assertRaises((mcg.ProgramFailed, mcg.OutOfMemory)) as raised:
                         list(call(["C~"]))
-                    self.assertIn("the exit status of mcg6 was lost", str(raised.exception))
+                    if isinstance(raised.exception, mcg.ProgramFailed):
+                        self.assertIn("the exit status of mcg6 was lost", str(raised.exception))
         finally:
             signal.signal(signal.SIGCHLD, before)
 
