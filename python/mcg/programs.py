@@ -89,22 +89,18 @@ def ended(name: str, status: int, words: str) -> Exception:
     return ProgramFailed(said, status)
 
 
-def bad_lines(words: str) -> Dict[int, Tuple[Optional[int], str]]:
+def bad_lines(words: str) -> Dict[int, Tuple[int, str]]:
     """Returns for each bad line of a list, by its number, the kind of its error and what mcg6 says
     of it: the message begins `mcg6: line L kind K: `. Nothing else is read out of its words.
-
-    Until the programs write the kind, it is None, and the beginning is `mcg6: line L: ` or
-    `mcg6: line L `.
 
     >>> bad_lines("mcg6: line 2 kind 4: a byte is outside 63 to 126")
     {2: (4, 'a byte is outside 63 to 126')}
     """
-    said: Dict[int, Tuple[Optional[int], str]] = {}
+    said: Dict[int, Tuple[int, str]] = {}
     for message in words.splitlines():
-        found = re.match("mcg6: line ([0-9]+)(?: kind ([0-9]+))?:? (.*)", message)
+        found = re.match("mcg6: line ([0-9]+) kind ([0-9]+): (.*)", message)
         if found:
-            kind = None if found[2] is None else int(found[2])
-            said.setdefault(int(found[1]), (kind, found[3]))
+            said.setdefault(int(found[1]), (int(found[2]), found[3]))
     return said
 
 
