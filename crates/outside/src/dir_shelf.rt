@@ -5,24 +5,16 @@ ghost use Rattle.std.proofs.Common.{rules};
 ghost use Rattle.outside.specs.DirShelf.{IsOpened};
 ghost use Rattle.outside.specs.Faults.{next_fault};
 
+use crate::opening::{open_file, reason_of};
 use crate::retries::read_some;
 use crate::{Explain, FailureReason, Given, Noting, Shelf, ShelfFault};
 use std::alloc::Global;
-use std::fs;
-use std::io::{Error, ErrorKind, Read};
+use std::io::Read;
 use std::marker::Model;
 use std::rt::Files;
 
 // how many bytes one turn of a read asks for
 const PIECE: usize = 4096;
-
-// The numbers of system errors that have no kind: a socket is opened as a file, and the system, or
-// a process, has too many files open.
-const NO_SUCH_DEVICE: i32 = 6;
-
-const ALL_OPEN: i32 = 23;
-
-const MOST_OPEN: i32 = 24;
 
 /// A shelf of the files that a runtime reaches by name. It is the trusted edge: it notes what the
 /// runtime gave for each name, makes no file known before it is read, and is never steady.
@@ -64,39 +56,6 @@ impl<'a, R: Files> DirShelf<'a, R> {
             faults: 0,
             reason: None,
         }
-    }
-}
-
-// The reason for a system error of this number, which has no kind.
-fn reason_of_number(number: i32) -> FailureReason {
-    if number == NO_SUCH_DEVICE {
-        FailureReason::Socket
-    } else if number == ALL_OPEN || number == MOST_OPEN {
-        FailureReason::ManyOpen
-    } else {
-        FailureReason::Other
-    }
-}
-
-// Why a call failed that opens or reads a file.
-fn reason_of(error: &Error) -> FailureReason {
-    match error.kind() {
-        ErrorKind::NotFound => FailureReason::Absent,
-        ErrorKind::IsADirectory => FailureReason::Folder,
-        ErrorKind::NotADirectory => FailureReason::NotInFolder,
-        ErrorKind::PermissionDenied => FailureReason::Forbidden,
-        ErrorKind::InvalidFilename => FailureReason::LongName,
-        ErrorKind::FilesystemLoop => FailureReason::LinkLoop,
-        _ => reason_of_number(error.raw_os_error().unwrap_or(0)),
-    }
-}
-
-// Why the file of that name was not opened: `Dangling` if a link has that name and leads nowhere.
-fn reason_unopened<R: Files>(runtime: &R, name: &str, error: &Error) -> FailureReason {
-    match reason_of(error) {
-        FailureReason::Absent if fs::symlink_metadata(runtime, name).is_ok() =>
-            FailureReason::Dangling,
-        reason => reason,
     }
 }
 
@@ -148,10 +107,10 @@ fn fill_named<R: Files>(
     ensures too_long { IsErrOf result ShelfFault.TooLong → length bytes.new.items ≡ limit + 1 }
     ensures ends { length bytes.new.items ≤ limit + 1 }
 {
-    match fs::open(runtime, name) {
+    match open_file(runtime, name) {
         Ok(mut file) => fill(&mut file, bytes, limit, reason),
-        Err(error) => {
-            *reason = Some(reason_unopened(runtime, name, &error));
+        Err(why) => {
+            *reason = Some(why);
             Err(ShelfFault::Failed)
         }
     }

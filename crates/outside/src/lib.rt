@@ -10,7 +10,7 @@
 //! result and every next state, with planned errors: they are for tests. `DirShelf`, `InSource`,
 //! `OutSink` and `LineSink` (standard error) are the runtime's, the trusted edge. They retry a call
 //! that a signal interrupts, up to 1,024 times. `emit` writes a whole output. For messages there
-//! are `KeepingShelf` (`Keeping`), `Explain` and `Outlet`.
+//! are `Explain`, `open_file` and `Outlet`.
 //!
 //! Depends on `std` alone. The contracts follow POSIX's `read` and `write`.
 #![tactic(auto)]
@@ -21,13 +21,13 @@ mod emitting;
 mod explain;
 mod given;
 mod in_source;
-mod keeping_shelf;
 mod limits;
 mod line_sink;
 mod mem_shelf;
 mod mem_sink;
 mod mem_source;
 mod noting;
+mod opening;
 mod out_sink;
 mod outlet;
 mod planned;
@@ -43,13 +43,13 @@ pub use emitting::emit;
 pub use explain::{Explain, FailureReason};
 pub use given::Given;
 pub use in_source::InSource;
-pub use keeping_shelf::{Keeping, KeepingShelf};
 pub use limits::{MOST_BYTES, MOST_LINE};
 pub use line_sink::LineSink;
 pub use mem_shelf::MemShelf;
 pub use mem_sink::MemSink;
 pub use mem_source::MemSource;
 pub use noting::Noting;
+pub use opening::open_file;
 pub use out_sink::OutSink;
 pub use outlet::Outlet;
 pub use printed::Printed;
