@@ -11,5 +11,5 @@ pub use Rattle.outside.specs.StoredFile.{named_files}
 pub use Rattle.outside.specs.DirShelf.{OpenState, IsOpened, given_after}
 pub use Rattle.outside.specs.OutSink.{PrintState, HasPrinted}
 pub use Rattle.outside.specs.Noting.{NotesFiles, named_texts}
-pub use Rattle.outside.specs.InSource.{ReadState, read_after, HasTaken}
+pub use Rattle.outside.specs.InSource.{ReaderState, ReadState, read_after, HasTaken}
 pub use Rattle.outside.specs.LineSink.{LineState, HasBegun, HasSaid}

@@ -1,49 +1,57 @@
-//! A source that is a reader of a runtime.
-ghost use Rattle.std.specs.Prelude.{◌≡◌, ◌≤◌, ◌++◌, [], IfOk, OnOk, OnErr, length, take};
+//! A source that is a file of a runtime, or its standard input.
+ghost use Rattle.std.specs.Prelude.{◌≡◌, ◌≤◌, ◌++◌, IfOk, OnOk, OnErr, length, take};
 ghost use Rattle.std.specs.declared.option.Option.TheVariants.{None};
 ghost use Rattle.outside.specs.Faults.{next_fault, MayCount};
 ghost use Rattle.outside.specs.InSource.{HasTaken};
 
-use crate::{Printed, Source, SourceFailed};
-use std::io::Read;
+use crate::{FailureReason, Inlet, Source, SourceFailed, TracedReader};
 use std::marker::Model;
+use std::rt::Files;
 
-/// A source over a reader of the runtime, such as its standard input or a file that it opened. It
-/// is the trusted edge: it notes the bytes that the reader gave, beside the call, and makes none
-/// known before it is read.
+/// A source over a file of the runtime, or over its standard input. It is the trusted edge: it notes
+/// the bytes that the reader gave, beside the call, and makes none known before it is read.
 ///
-/// A contract sees it as a `ReadState`: these bytes, and the count of errors, which saturates at the
-/// largest u64.
+/// A contract sees it as a `ReadState`: the name that was opened, these bytes, the count of errors,
+/// which saturates at the largest u64, and why the last read that failed did.
 #[derive(Drop)]
-pub struct InSource<R: Read + Drop> {
-    reader: Option<R>,
-    read: Printed,
+pub struct InSource<'a, R: Files + Input> {
+    reader: TracedReader<'a, R>,
     faults: u64,
+    reason: Option<FailureReason>,
 }
 
-impl<R: Read + Drop> Model for InSource<R> {
+impl<'a, R: Files + Input> Model for InSource<'a, R> {
     ghost use Rattle.outside.specs.InSource.{ReadState};
 
     ghost Value = { ReadState };
 
-    ghost view = { λ source. record { read = source.read.bytes; faults = source.faults } };
+    ghost view = { λ source. record {
+      name = source.reader.name;
+      read = source.reader.read;
+      faults = source.faults;
+      reason = source.reason;
+    } };
 }
 
-impl<R: Read + Drop> InSource<R> {
-    /// The source over this reader. Without a reader, for example if a file was not opened, each
-    /// read fails. Takes no memory.
-    pub fn new(reader: Option<R>) -> InSource<R>
-        ensures { result ≡ record { read = []; faults = 0 } }
+impl<'a, R: Files + Input> InSource<'a, R> {
+    /// The source over this reader. Takes no memory.
+    pub fn new(reader: TracedReader<'a, R>) -> InSource<'a, R>
+        ensures { result ≡ record {
+          name = reader.entry.name;
+          read = reader.entry.read;
+          faults = 0;
+          reason = None;
+        } }
     {
         InSource {
             reader,
-            read: Printed::new(),
             faults: 0,
+            reason: None,
         }
     }
 }
 
-impl<R: Read + Drop> Source for InSource<R> {
+impl<R: Files + Input> Source for InSource<'_, R> {
     ghost left = { λ source. None };
 
     ghost faults = { λ source. source.faults };
@@ -53,6 +61,7 @@ impl<R: Read + Drop> Source for InSource<R> {
     /// An error of the runtime is `SourceFailed`.
     fn read(&mut self, piece: &mut [u8]) -> Result<usize, SourceFailed>
         ensures within { IfOk result (λ count. count ≤ length piece.old) }
+        ensures name { self.new.name ≡ self.old.name }
         ensures read { IfOk result
             (λ count. self.new.read ≡ self.old.read ++ take count piece.new) }
         ensures unread { OnErr result (self.new.read ≡ self.old.read) }
@@ -60,12 +69,21 @@ impl<R: Read + Drop> Source for InSource<R> {
         ensures ok { OnOk result (self.new.faults ≡ self.old.faults) }
         ensures err { OnErr result (self.new.faults ≡ next_fault self.old.faults) }
     {
-        if let Some(reader) = &mut self.reader
-            && let Ok(count) = self.read.read(reader, piece)
-        {
-            return Ok(count);
+        match self.reader.read(piece) {
+            Ok(count) => Ok(count),
+            Err(reason) => {
+                self.faults = self.faults.saturating_add(1);
+                self.reason = Some(reason);
+                Err(SourceFailed)
+            }
         }
-        self.faults = self.faults.saturating_add(1);
-        Err(SourceFailed)
+    }
+}
+
+impl<R: Files + Input> Inlet for InSource<'_, R> {
+    ghost reason = { λ source. source.reason };
+
+    fn reason(&self) -> Option<FailureReason> {
+        self.reason
     }
 }

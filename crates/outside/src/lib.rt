@@ -10,28 +10,30 @@
 //! result and every next state, with planned errors: they are for tests. `DirShelf`, `InSource`,
 //! `OutSink` and `LineSink` (standard error) are the runtime's, the trusted edge. They retry a call
 //! that a signal interrupts, up to 1,024 times. `emit` writes a whole output. For messages there
-//! are `Explain`, `open_file` and `Outlet`.
+//! are `Explain`, `Inlet` and `Outlet`.
 //!
 //! Depends on `std` alone. The contracts follow POSIX's `read` and `write`.
 #![tactic(auto)]
 
 mod count_sink;
 mod dir_shelf;
+mod edge;
 mod emitting;
 mod explain;
 mod given;
 mod in_source;
+mod inlet;
 mod limits;
 mod line_sink;
 mod mem_shelf;
 mod mem_sink;
 mod mem_source;
 mod noting;
-mod opening;
 mod out_sink;
 mod outlet;
 mod planned;
 mod printed;
+mod reasons;
 mod retries;
 mod shelf;
 mod sink;
@@ -39,17 +41,18 @@ mod source;
 
 pub use count_sink::CountSink;
 pub use dir_shelf::DirShelf;
+pub use edge::TracedReader;
 pub use emitting::emit;
 pub use explain::{Explain, FailureReason};
 pub use given::Given;
 pub use in_source::InSource;
+pub use inlet::Inlet;
 pub use limits::{MOST_BYTES, MOST_LINE};
 pub use line_sink::LineSink;
 pub use mem_shelf::MemShelf;
 pub use mem_sink::MemSink;
 pub use mem_source::MemSource;
 pub use noting::Noting;
-pub use opening::open_file;
 pub use out_sink::OutSink;
 pub use outlet::Outlet;
 pub use printed::Printed;

@@ -4,8 +4,8 @@ ghost use Rattle.std.specs.declared.option.Option.TheVariants.{None};
 ghost use Rattle.outside.specs.Faults.{Rose, MayCount};
 ghost use Rattle.outside.specs.LineSink.{HasBegun, HasSaid};
 
-use crate::{Printed, Sink, SinkFailed};
-use std::io;
+use crate::edge::TracedStream;
+use crate::{Sink, SinkFailed};
 use std::marker::Model;
 
 // How many bytes of a line are held before they are written.
@@ -19,22 +19,21 @@ const ROOM: usize = 512;
 /// Bytes after the last line feed stay held. A contract sees the sink as a `LineState`: the bytes that
 /// the stream took, those that are held, and the count of errors, which saturates at the largest u64.
 #[derive(Drop)]
-pub struct LineSink<'a, P: Print> {
-    stream: &'a P,
-    printed: Printed,
+pub struct LineSink<'a, P> {
+    stream: TracedStream<'a, P>,
     line: [u8; ROOM],
     held: usize,
     faults: u64,
 }
 
-impl<'a, P: Print> Model for LineSink<'a, P> {
+impl<'a, P> Model for LineSink<'a, P> {
     ghost use Rattle.std.specs.Prelude.{◌<◌, take};
     ghost use Rattle.outside.specs.LineSink.{LineState};
 
     ghost Value = { LineState };
 
     ghost view = { λ sink. record {
-      printed = sink.printed.bytes;
+      printed = sink.stream;
       held = take sink.held sink.line;
       faults = sink.faults;
     } };
@@ -42,14 +41,13 @@ impl<'a, P: Print> Model for LineSink<'a, P> {
     ghost invariant = { λ sink. sink.held < 512 };
 }
 
-impl<'a, P: Print> LineSink<'a, P> {
+impl<'a, P> LineSink<'a, P> {
     /// The sink over that stream of a runtime, such as `rt.stderr()`. Takes no memory.
     pub fn new(stream: &'a P) -> LineSink<'a, P>
         ensures { result ≡ record { printed = []; held = []; faults = 0 } }
     {
         LineSink {
-            stream,
-            printed: Printed::new(),
+            stream: TracedStream::new(stream),
             line: [0; ROOM],
             held: 0,
             faults: 0,
@@ -89,10 +87,7 @@ impl<P: Print> Sink for LineSink<'_, P> {
             return Ok(count);
         }
         self.held = 0;
-        match self
-            .printed
-            .write_whole(&mut io::writer(self.stream), &self.line[..end])
-        {
+        match self.stream.write_whole(&self.line[..end]) {
             Ok(()) => Ok(count),
             Err(failed) => {
                 self.faults = self.faults.saturating_add(1);

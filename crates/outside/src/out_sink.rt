@@ -4,8 +4,8 @@ ghost use Rattle.std.specs.declared.option.Option.TheVariants.{Some};
 ghost use Rattle.outside.specs.Faults.{next_fault, faults_after, MayCount};
 ghost use Rattle.outside.specs.OutSink.{HasPrinted};
 
-use crate::{Outlet, Printed, Sink, SinkFailed};
-use std::io;
+use crate::edge::TracedStream;
+use crate::{Outlet, Sink, SinkFailed};
 use std::io::ErrorKind;
 use std::marker::Model;
 
@@ -15,33 +15,31 @@ use std::marker::Model;
 /// A contract sees it as a `PrintState`: these bytes, the count of errors, which saturates at the
 /// largest u64, and whether the last write failed because nobody reads any more.
 #[derive(Drop)]
-pub struct OutSink<'a, P: Print> {
-    runtime: &'a P,
-    printed: Printed,
+pub struct OutSink<'a, P> {
+    stream: TracedStream<'a, P>,
     faults: u64,
     is_abandoned: bool,
 }
 
-impl<'a, P: Print> Model for OutSink<'a, P> {
+impl<'a, P> Model for OutSink<'a, P> {
     ghost use Rattle.outside.specs.OutSink.{PrintState};
 
     ghost Value = { PrintState };
 
     ghost view = { λ sink. record {
-      printed = sink.printed.bytes;
+      printed = sink.stream;
       faults = sink.faults;
       is_abandoned = sink.is_abandoned;
     } };
 }
 
-impl<'a, P: Print> OutSink<'a, P> {
+impl<'a, P> OutSink<'a, P> {
     /// The sink that is that runtime's standard output. It takes no memory.
     pub fn new(runtime: &'a P) -> OutSink<'a, P>
         ensures { result ≡ record { printed = []; faults = 0; is_abandoned = false } }
     {
         OutSink {
-            runtime,
-            printed: Printed::new(),
+            stream: TracedStream::new(runtime),
             faults: 0,
             is_abandoned: false,
         }
@@ -65,8 +63,8 @@ impl<P: Print> Sink for OutSink<'_, P> {
 
     ghost writes = { HasPrinted };
 
-    /// No byte is held back. An error of the runtime is `SinkFailed`. No clause says what reaches the standard output: `tests/edge` looks
-    /// at the bytes that arrive, and at a write to a full device.
+    /// No byte is held back. An error of the runtime is `SinkFailed`. No clause says what arrives:
+    /// `tests/edge` looks at the bytes that do, and at a write to a full device.
     fn write(&mut self, bytes: &[u8]) -> Result<usize, SinkFailed>
         ensures within { IfOk result (λ count. count ≤ length bytes.now) }
         ensures printed { IfOk result
@@ -78,7 +76,7 @@ impl<P: Print> Sink for OutSink<'_, P> {
             (λ count. self.new.faults ≡ faults_after self.old.faults count (length bytes.now)) }
         ensures err { OnErr result (self.new.faults ≡ next_fault self.old.faults) }
     {
-        let count = match self.printed.write(&mut io::writer(self.runtime), bytes) {
+        let count = match self.stream.write(bytes) {
             Ok(count) => count,
             Err(error) => {
                 self.count_fault(error.kind());

@@ -25,14 +25,14 @@ returns-in-Ok-clause-passed g c = grind (arith, passed, take-put_mid)
 
 pub returns-in-Ok-clause-begun : goal.returns-in-Ok-clause-begun
 returns-in-Ok-clause-begun g c =
-    let b : HasBegun c.self.inside.printed.bytes c.write_whole.new.self.bytes (take c.self.inside.held c.self.inside.line ++ c.args.bytes.now) =
-    begun c.self.inside.printed.bytes c.write_whole.new.self.bytes (take c.self.inside.held c.self.inside.line) c.args.bytes.now _ c.write_whole.ensures.tied.0 c.min-count.result c.write_whole.ensures.tied.1
+    let b : HasBegun c.self.inside.stream c.write_whole.new.self (take c.self.inside.held c.self.inside.line ++ c.args.bytes.now) =
+    begun c.self.inside.stream c.write_whole.new.self (take c.self.inside.held c.self.inside.line) c.args.bytes.now _ c.write_whole.ensures.begun.0 c.min-count.result c.write_whole.ensures.begun.1
     (grind (arith, take-put_mid)) in
     grind (arith, b)
 
 pub returns-in-Err-clause-begun : goal.returns-in-Err-clause-begun
 returns-in-Err-clause-begun g c =
-    let b : HasBegun c.self.inside.printed.bytes c.write_whole.new.self.bytes (take c.self.inside.held c.self.inside.line ++ c.args.bytes.now) =
-    begun c.self.inside.printed.bytes c.write_whole.new.self.bytes (take c.self.inside.held c.self.inside.line) c.args.bytes.now _ c.write_whole.ensures.tied.0 c.min-count.result c.write_whole.ensures.tied.1
+    let b : HasBegun c.self.inside.stream c.write_whole.new.self (take c.self.inside.held c.self.inside.line ++ c.args.bytes.now) =
+    begun c.self.inside.stream c.write_whole.new.self (take c.self.inside.held c.self.inside.line) c.args.bytes.now _ c.write_whole.ensures.begun.0 c.min-count.result c.write_whole.ensures.begun.1
     (grind (arith, take-put_mid)) in
     grind (arith, b)

@@ -1,6 +1,6 @@
 use Rattle.std.proofs.Common.{◌≡◌, ◌≤◌, ◌+◌, ◌-◌, ◌++◌, ℕ, List, vec_len}
 use Rattle.std.specs.Io.KnownBytes.{Consumes}
-use Rattle.outside.proofs.dir_shelf.fill.Given as goal
+use Rattle.outside.proofs.edge.fill.Given as goal
 
 abbrev pub invariant-reading : goal.invariant-reading
 invariant-reading g l = record {

@@ -1,4 +1,5 @@
-//! Opening a file by its name, and why a call on a file failed.
+//! Why a call failed that opens or reads a file.
+
 use crate::FailureReason;
 use std::fs;
 use std::io::{Error, ErrorKind};
@@ -23,7 +24,7 @@ fn reason_of_number(number: i32) -> FailureReason {
     }
 }
 
-/// Why a call failed that opens or reads a file. Takes no memory.
+/// Why a call failed that opens or reads a file.
 pub(crate) fn reason_of(error: &Error) -> FailureReason {
     match error.kind() {
         ErrorKind::NotFound => FailureReason::Absent,
@@ -45,19 +46,12 @@ fn is_link<R: Files>(runtime: &R, name: &str) -> bool {
     }
 }
 
-// Why the file of that name was not opened. The error does not tell a name that is not there from a
-// link that leads nowhere, so this alone looks a second time: it is `Dangling` if there is a link.
-fn reason_unopened<R: Files>(runtime: &R, name: &str, error: &Error) -> FailureReason {
+/// Why the file of that name was not opened. The error is the same for a name that is not there and
+/// for a link that leads nowhere, so this alone is looked up after the failed call: `Dangling` if a
+/// link has that name.
+pub(crate) fn reason_unopened<R: Files>(runtime: &R, name: &str, error: &Error) -> FailureReason {
     match reason_of(error) {
         FailureReason::Absent if is_link(runtime, name) => FailureReason::Dangling,
         reason => reason,
-    }
-}
-
-/// Opens the file of that name for reading, or returns why it was not opened. Takes no memory.
-pub fn open_file<R: Files>(runtime: &R, name: &str) -> Result<R::File, FailureReason> {
-    match fs::open(runtime, name) {
-        Ok(file) => Ok(file),
-        Err(error) => Err(reason_unopened(runtime, name, &error)),
     }
 }
