@@ -9,3 +9,4 @@ pub use Rattle.bench_tasks.specs.Loads.{Held, simple_graph_in, given_tree, given
 pub use Rattle.bench_tasks.specs.Reads.{names_in, files_in, names_until, StopsAt, ReadsUntil, ReadsAs, FailsAs, IsUnread, IsReadFault, HasNoMissing}
 pub use Rattle.bench_tasks.specs.Answered.{place_name, by_place, IsTooLong, GaveFile, HoldGiven, CountsAs, failures_in, failures_of, LastFailed, FailedAs, ReadsOnce, LoadsAnswered, GathersAnswered}
 pub use Rattle.bench_tasks.specs.Carried.{bytes_carried, StopsOn, CarriesFile, last_bytes, CarriesBytes}
+pub use Rattle.bench_tasks.specs.Sized.{sizes_held, GaveSizes, sizes_carried, CarriesSizes, CarriesFirstSizes}

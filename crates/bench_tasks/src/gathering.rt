@@ -1,6 +1,6 @@
 //! The task that the files of a command make of it.
 ghost use Rattle.std.specs.Prelude.{IfErr, IfOk};
-ghost use Rattle.bench_tasks.specs.Common.{CarriesFile, GathersAnswered, asked, file_names, files_of, loaded, Loads, task_of, ReadsAs, IsTaskOf};
+ghost use Rattle.bench_tasks.specs.Common.{CarriesFile, CarriesFirstSizes, GathersAnswered, asked, file_names, files_of, loaded, Loads, task_of, ReadsAs, IsTaskOf};
 
 use crate::command::Command;
 use crate::formats::{Graph6File, GraphFile};
@@ -26,6 +26,9 @@ pub fn gather<'a, S: Explain>(
     // A stop carries the file of the command that stopped it, and why it could not be read.
     ensures carries { IfErr result
         (CarriesFile (files_of (asked command.entry)) (S.reason shelf.new)) }
+    // The sizes that it carries are those of the graph that the first file stands for.
+    ensures sized { IfErr result
+        (CarriesFirstSizes S.reads (file_names (asked command.entry)) shelf.old) }
     ensures asked { IfOk result (λ task. IsTaskOf (asked command.entry) (task_of task)) }
 {
     match command {

@@ -7,7 +7,7 @@ ghost use Rattle.move_text.specs.from_tree_core.Common.{Fits, shape_of, moves_of
 ghost use Rattle.move_text.specs.Common.{most_moves};
 ghost use Rattle.ear_text.specs.from_ear_core.Common.{FitsEars, ears_of};
 ghost use Rattle.graph_core.specs.Common.{size};
-ghost use Rattle.bench_tasks.specs.Common.{CarriesFile, StopsOn, file_seen, LoadsAnswered, ReadsOnce, place_name, ear_file, ears_given, file_read, move_file, moves_given, picks_given, tree_file, tree_given, trees_given, Loads, given_ears, given_moves, given_picks, given_tree, given_trees, StopsAt};
+ghost use Rattle.bench_tasks.specs.Common.{CarriesFile, CarriesSizes, GaveSizes, StopsOn, file_seen, LoadsAnswered, ReadsOnce, place_name, ear_file, ears_given, file_read, move_file, moves_given, picks_given, tree_file, tree_given, trees_given, Loads, given_ears, given_moves, given_picks, given_tree, given_trees, StopsAt};
 
 use crate::files::CommandFile;
 use crate::formats::{EarFile, FileFormat, GraphFile, MoveFile, PickFile, TreeFile};
@@ -192,6 +192,9 @@ pub fn load_tree<'a, S: Explain>(
         result shelf.old shelf.new }
     ensures carries { IfErr result
         (CarriesFile ((graph_file.now, FileKind.Graph) ∷ (tree_file.now, FileKind.Tree) ∷ []) (S.reason shelf.new)) }
+    ensures sized { IfErr result (CarriesSizes S.reads graph_file.now shelf.old) }
+    ensures gave { IfOk result (λ given. GaveSizes S.reads graph_file.now
+        (given.named.graph.order, size given.named.graph) shelf.old) }
 {
     let named = match load_first(alloc, &GraphFile, graph_file, shelf) {
         Ok(named) => named,
@@ -219,6 +222,7 @@ pub fn load_picks<'a, S: Explain>(
         result shelf.old shelf.new }
     ensures carries { IfErr result
         (CarriesFile ((graph_file.now, FileKind.Graph) ∷ (picks_file.now, FileKind.Picks) ∷ []) (S.reason shelf.new)) }
+    ensures sized { IfErr result (CarriesSizes S.reads graph_file.now shelf.old) }
 {
     let named = match load_first(alloc, &GraphFile, graph_file, shelf) {
         Ok(named) => named,
@@ -246,6 +250,7 @@ pub fn load_ears<'a, S: Explain>(
         result shelf.old shelf.new }
     ensures carries { IfErr result
         (CarriesFile ((graph_file.now, FileKind.Graph) ∷ (ears_file.now, FileKind.Ears) ∷ []) (S.reason shelf.new)) }
+    ensures sized { IfErr result (CarriesSizes S.reads graph_file.now shelf.old) }
 {
     let named = match load_first(alloc, &GraphFile, graph_file, shelf) {
         Ok(named) => named,
@@ -275,6 +280,7 @@ pub fn load_moves<'a, S: Explain>(
         result shelf.old shelf.new }
     ensures carries { IfErr result
         (CarriesFile ((graph_file.now, FileKind.Graph) ∷ (tree_file.now, FileKind.Tree) ∷ (moves_file.now, FileKind.Moves) ∷ []) (S.reason shelf.new)) }
+    ensures sized { IfErr result (CarriesSizes S.reads graph_file.now shelf.old) }
 {
     let given = match load_tree(alloc, graph_file, tree_file, shelf) {
         Ok(given) => given,
@@ -308,6 +314,7 @@ pub fn load_trees<'a, S: Explain>(
         result shelf.old shelf.new }
     ensures carries { IfErr result
         (CarriesFile ((graph_file.now, FileKind.Graph) ∷ (first_file.now, FileKind.Tree) ∷ (second_file.now, FileKind.Tree) ∷ []) (S.reason shelf.new)) }
+    ensures sized { IfErr result (CarriesSizes S.reads graph_file.now shelf.old) }
 {
     let given = match load_tree(alloc, graph_file, first_file, shelf) {
         Ok(given) => given,

@@ -5,7 +5,7 @@ use Rattle.std.proofs.lemmas.Option.{none-some, same_Some}
 use Rattle.outside.specs.Common.{Answer, NamedFile, ReadsInTurn, Rose}
 use Rattle.outside.specs.declared.explain.FailureReason.{FailureReason}
 use Rattle.refusals.specs.declared.refusal.Refusal.{Refusal}
-use Rattle.bench_reports.specs.from_bench_tasks.Common.{Absent, All, Bad, CarriesFile, Command, FailsAs, GathersAnswered, Held, HasNoMissing, IsReadFault, IsTaskOf, Loaded, Loads, LoadsAs, ReadsAs, Task, file_names, files_of, loaded, names_until, task_of}
+use Rattle.bench_reports.specs.from_bench_tasks.Common.{Absent, All, Bad, CarriesFile, CarriesFirstSizes, Command, FailsAs, GathersAnswered, Held, HasNoMissing, IsReadFault, IsTaskOf, Loaded, Loads, LoadsAs, ReadsAs, Task, file_names, files_of, loaded, names_until, task_of}
 use Rattle.bench_reports.specs.from_bench_tasks.declared.stop.Stop.{Stop}
 use Rattle.bench_reports.specs.from_bench_tasks.declared.tasks.Task.TheVariants as code
 use Rattle.bench_reports.specs.from_bench_outcomes.Common.{Appended, CutShort, GatheredMayRefuse, IsPlaced, IsReported, IsSettled, LoadedGives, is_negative}
@@ -20,7 +20,7 @@ use Rattle.bench_top.proofs.GivenFiles.{given-outcome}
 use Rattle.bench_top.proofs.ReadsMade.{absent-fault, first-reads}
 use Rattle.bench_top.proofs.Refusals.{may-refuse}
 use Rattle.bench_top.proofs.RunsMade.{calm-reads, ends-absent, ends-bad, ends-good}
-use Rattle.bench_top.proofs.Stops.{stop-carries, stop-carries-bytes, stop-is, stop-reads, unread}
+use Rattle.bench_top.proofs.Stops.{stop-carries, stop-carries-bytes, stop-carries-graph, stop-is, stop-reads, unread}
 use Rattle.bench_top.proofs.WritesMade.{writes-more, wrote-appended, wrote-none, wrote-prefix}
 
 -- what was gathered gives this status and this output, whatever files it was read from
@@ -41,6 +41,7 @@ module _ {S K : Type 0} (holds : S → Option (List NamedFile)) (is_steady : S �
     pub made : ReadsAs reads (file_names k) gathered first last
     pub answered : GathersAnswered reads k gathered first last
     pub carries : IfErr gathered (CarriesFile (files_of k) (reason last))
+    pub sized : IfErr gathered (CarriesFirstSizes reads (file_names k) first)
     pub asked : IfOk gathered (λ task. IsTaskOf k (task_of task))
 
   -- the run ended so with what was gathered
@@ -131,6 +132,7 @@ module _ {S K : Type 0} (holds : S → Option (List NamedFile)) (is_steady : S �
         stops_after = stop-reads reads (file_names k) gathered first last got.made;
         carries = stop-carries (files_of k) (reason last) gathered got.carries;
         carries_bytes = stop-carries-bytes reads k gathered first last got.answered;
+        carries_graph = stop-carries-graph reads (file_names k) gathered first got.sized;
         reported = ended.bad;
         unread_file = λ fault. unread gathered (ended.read_fault.0 fault);
         is_refused = ended.is_refused;

@@ -95,6 +95,7 @@ usage-runs holds is_steady faults reads reason written writes sink_faults shelf 
   stops_after = tt;
   carries = tt;
   carries_bytes = tt;
+  carries_graph = tt;
   reported = λ e. cc e;
   unread_file = λ e. cc e;
   is_refused = refl;

@@ -8,7 +8,7 @@ use Rattle.graph_core.specs.from_line_text.Common.{kind_number}
 use Rattle.graph_core.specs.from_line_text.declared.faults.FaultKind.{FaultKind}
 use Rattle.mcg6_lines.specs.from_report_text.Common.{bad_input_text}
 use Rattle.refusals.specs.declared.refusal.Refusal.{Refusal}
-use Rattle.bench_reports.specs.from_bench_tasks.Common.{CarriesBytes, CarriesFile, File, Loaded, Bad, Absent}
+use Rattle.bench_reports.specs.from_bench_tasks.Common.{CarriesBytes, CarriesFile, CarriesFirstSizes, File, Loaded, Bad, Absent}
 use Rattle.bench_reports.specs.from_bench_tasks.declared.stop.FaultyFile.{FaultyFile}
 use Rattle.bench_reports.specs.from_bench_tasks.declared.stop.UnreadFile.{UnreadFile}
 use Rattle.bench_reports.specs.from_bench_tasks.declared.stop.Stop.{Stop}
@@ -39,6 +39,11 @@ StopsAfter reads names (Some stop.Memory) first last = Unit {0}
 abbrev pub Carries : List File → Option FailureReason → Option Stop → Type 0
 Carries files reason None = Unit {0}
 Carries files reason (Some stopped) = CarriesFile files reason stopped
+
+-- the sizes that it carries are those of the graph that the first of these names gave
+abbrev pub CarriesGraph : {S : Type 0} → (S → List ℕ → Answer → S → Type 0) → List (List ℕ) → Option Stop → (first : S) → Type 0
+CarriesGraph reads names None first = Unit {0}
+CarriesGraph reads names (Some stopped) first = CarriesFirstSizes reads names first stopped
 
 -- a bad file is carried with the bytes that its read returned, the last of the reads of these names
 pub record CarriesLast {S : Type 0} (reads : S → List ℕ → Answer → S → Type 0) (names : List (List ℕ)) (stopped : Stop) (first last : S) : Type 0 where

@@ -10,7 +10,7 @@ use Rattle.bench_reports.specs.from_bench_outcomes.Common.{CommandGives, MayRefu
 use Rattle.bench_reports.specs.from_bench_outcomes.declared.status.Status.{Status}
 use Rattle.bench_reports.specs.from_bench_outcomes.declared.status.Status.TheVariants as status
 use Rattle.bench_top.specs.Calm.{HasRead, IsCalm}
-use Rattle.bench_top.specs.Endings.{Carries, CarriesRead, IsStopOf, ReportedBad, ReportedRefusal, StopsAfter, Unread}
+use Rattle.bench_top.specs.Endings.{Carries, CarriesGraph, CarriesRead, IsStopOf, ReportedBad, ReportedRefusal, StopsAfter, Unread}
 use Rattle.bench_top.specs.Given.{GivenOutcome}
 use Rattle.bench_top.specs.Writes.{GivesTold, WritesAs}
 
@@ -83,9 +83,10 @@ pub record RunsTo {S K : Type 0} (holds : S → Option (List NamedFile)) (is_ste
   -- the files up to that of the stop are those that were read
   pub stops_after : StopsAfter reads (names_in row) stopped first last
   -- it carries the file at its place among those of the words, and why that could not be read, or
-  -- the bytes that its read returned
+  -- the bytes that its read returned and the sizes of the graph that it is for
   pub carries : Carries (files_in row) (reason last) stopped
   pub carries_bytes : CarriesRead reads (names_in row) stopped first last
+  pub carries_graph : CarriesGraph reads (names_in row) stopped first
   -- a bad file is the one that the written line reports, and a failed read has its file
   pub reported : ended ≡ status.BadInput → ReportedBad stopped (written before) (written now)
   pub unread_file : ended ≡ status.ReadFault → Unread stopped

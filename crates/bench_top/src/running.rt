@@ -14,9 +14,10 @@ use std::alloc::Global;
 /// with what is known of this file, or why the input was refused.
 ///
 /// What it makes of the shelf and the sink is `RunsTo`: all that `run` makes of them (`Runs`), and
-/// nine facts more. The stop is what the files hold (`stops`), the files up to it are those that
+/// ten facts more. The stop is what the files hold (`stops`), the files up to it are those that
 /// were read (`stops_after`), it has the file at its place in the words, and why this file could not
-/// be read (`carries`), or the bytes that its read returned (`carries_bytes`), a bad file is the one that the written line reports (`reported`), and
+/// be read (`carries`), or the bytes that its read returned (`carries_bytes`) and the sizes of the
+/// graph that it is for (`carries_graph`), a bad file is the one that the written line reports (`reported`), and
 /// a failed read has its file (`unread_file`). There is a refusal exactly if the status is Negative
 /// (`is_refused`), it is the one that the written line reports (`reported_refusal`), and the place
 /// that it names is that of the fault in what the files hold (`placed`).
