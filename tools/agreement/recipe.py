@@ -16,12 +16,12 @@ EXCEPTIONS = {
     "crates/front_words/specs/Faults.antt": "a hint for graph6 in place of a graph file",
     "crates/front_words/src/faults.rt": "the same",
     "crates/report_text/mutants/forgets_the_graph6_text.edit": "a mutant of its last line",
-    "docs/dev/FILES.md": "made by tools/file_index",
     "tests/edge_trials/limits.py": "the limits of graph6",
     "tests/scripts": "an example of help",
     "tools/agreement/recipe.py": "this file",
     "tools/agree_docs": "what this file does",
     "tools/README.md": "the same",
+    "tools/selftest": "faults planted in what this file compares",
 }
 
 

@@ -5,14 +5,21 @@ crates/front_words/src. The rows of the usage of mcg are compared with the table
 completion for bash; those of mcg6, with its properties, with its manual page, its completion, the table of FORMATS and the words that
 mcg6_top reads; each page with the rows of its command; the words for kinds of errors with the table of FORMATS; the headers and limits
 with the sections of FORMATS; the versions with VERSION, and the kit's line with README. It lists each that differs, and ends with 1 if
-there is any.
+there is any. It counts what it compared: fewer than `LEAST` of a kind is an error too, since then it has looked for something that the
+sources have in another form by now.
 """
+import collections
 import re
 
 # The formats by the names that the code gives them, with their sections in FORMATS.
-SECTIONS = {"Graph": "Graph format", "Derivation": "Derivation format", "Picks": "Pick format", "Ears": "Ear format", "Moves": "Move format"}
+SECTIONS = {"Graph": "Graph format", "Tree": "Derivation format", "Picks": "Pick format", "Ears": "Ear format", "Moves": "Move format"}
 # The abbreviations of the usage that the manual page writes out.
 WRITTEN_OUT = {"first | last | balanced": "ORDER"}
+# What is compared, and at least how many of each.
+LEAST = {"rows": 18, "pages": 17, "arguments": 20, "ranges": 2, "kinds": 15, "headers": 6, "limits": 7, "versions": 2}
+# What the words for a kind of error are where a format does not have it.
+UNSAID = "a fault of another kind"
+compared = collections.Counter()
 wrong = []
 
 
@@ -27,13 +34,19 @@ def same(what, one, other):
 
 
 def constant(source, name):
-    return re.search(rf'const {name}: &str =\s*"(.*?)";', source, re.S)[1]
+    found = re.search(rf'const {name}: &str =\s*"(.*?)";', source, re.S)
+    if not found:
+        wrong.append(f"there is no constant {name}")
+    return found[1] if found else ""
 
 
 def arms(source, function):
     """The texts of a function's match, by what stands before each."""
     body = re.search(rf"^(?:pub )?fn {function}\(.*?^}}", source, re.S | re.M)[0]
-    return dict(re.findall(r'^        (?:Role::|FaultKind::)?(\w+) => "(.*)",$', body, re.M))
+    found = {}
+    for patterns, text in re.findall(r'^        ([\w:| \n]+?)\s*=>\s*"(.*)",$', body, re.M):
+        found.update({it.split("::")[-1].strip(): text for it in patterns.split("|")})
+    return found
 
 
 def synopsis(page):
@@ -74,15 +87,19 @@ def compare_commands(rows, readme):
 
 
 def compare_faults(faults, formats):
-    kinds = {**arms(faults, "graph6_fault"), **arms(faults, "line_fault")}
+    of_line, of_graph6 = ({kind: words for kind, words in arms(faults, it).items() if words != UNSAID} for it in ("line_fault", "graph6_fault"))
+    kinds = {**of_graph6, **of_line}
     table = re.findall(r"^\| \d+ \| ([A-Z]\w+) \| (.*?) \|$", formats[:formats.index("## Graph format")], re.M)
     same("the kinds of FORMATS", kinds, dict(table))
+    compared["kinds"] += len(kinds)
     for role, words in arms(faults, "header_note").items():
         for header in re.findall(r"\b[a-z] mcg2?(?: [A-Z])+", words):
+            compared["headers"] += 1
             if f"`{header}`" not in section(formats, role):
                 wrong.append(f"the header `{header}` is not in the section of {role} in FORMATS")
     for role, words in arms(faults, "limit_note").items():
         for number in re.findall(r"\b\d[\d,]*\b", words):
+            compared["limits"] += 1
             if not re.search(rf"(?<![\d,]){number}(?![\d,])", section(formats, role)):
                 wrong.append(f"the limit {number} is not in the section of {role} in FORMATS")
 
@@ -90,7 +107,10 @@ def compare_faults(faults, formats):
 def section(formats, role):
     """The sections of FORMATS on a format."""
     parts = re.split(r"(?m)^## ", formats)
-    return "".join(it for it in parts if it.startswith(SECTIONS.get(role, "graph6")))
+    found = "".join(it for it in parts if it.startswith(SECTIONS.get(role, "graph6")))
+    if not found:
+        wrong.append(f"FORMATS has no section on {role}")
+    return found
 
 
 def list_words(usage, name):
@@ -178,11 +198,13 @@ def compare_page(page, rows, usage, program):
     body, example = " ".join(parts[:-1]).replace("\n", " "), parts[-1]
     same(f"the lines {what}", "".join(it.line.replace("\\n", "\n") for it in rows), f"{head}\n")
     same(f"the arguments {what}", sorted({it for row in rows for it in row.arguments}), sorted(set(re.findall(r"\b[A-Z]{2,}\d?\b", body))))
+    compared["arguments"] += len({it for row in rows for it in row.arguments})
     same(f"`skip` {what}", any(row.skips for row in rows), "With skip" in body)
     same(f"the example {what}", f"Example: {program} ", example[:len(f"Example: {program} ")])
     if not re.search(rf"\b{program} {command} ", example):
         wrong.append(f"the example {what} does not run it")
     numbers = [it for row in rows for it in row.numbers]
+    compared["ranges"] += len(numbers)
     same(f"the ranges {what}", [(name, *range) for name, range, _ in numbers], re.findall(r"\b([A-Z]+), (\d+) to (\d+),", body))
     same(f"all ranges {what}", [range for _, range, _ in numbers], re.findall(r"\b(\d+) to (\d+)\b", body))
     for name, range, texts in numbers:
@@ -205,7 +227,7 @@ def compare_pages(table):
         rows, pages = rows_of(table, name), read(f"crates/command_table/src/{file}.rt")
         commands = list(dict.fromkeys(it.command for it in rows))
         same(f"the pages of {program}", commands, [it.lower() for it in re.findall(r'^pub const (\w+): &str =\s*"', pages, re.M)])
-        for command in commands:
+        for command in (it for it in commands if f"const {it.upper()}:" in pages):
             compare_page(constant(pages, command.upper()), [it for it in rows if it.command == command], constant(table, usage), program)
         count += len(commands)
     return count
@@ -218,11 +240,14 @@ def main():
     rows = [re.split("  +", it)[1] for it in constant(table, "USAGE").splitlines() if it.startswith("  ")]
     compare_commands(rows, readme)
     rows += compare_lists(constant(table, "LIST_USAGE"), formats)
-    pages = compare_pages(table)
+    compared.update(rows=len(rows), pages=compare_pages(table))
     compare_faults(faults, formats)
     for name, which in (("mcg", "VERSION"), ("mcg6", "LIST_VERSION")):
+        compared["versions"] += 1
         version, kit = constant(versions, which).splitlines()
         same(f"VERSION, and what {name} says", version, f"{name} {read('VERSION').strip()}")
         same("the kit's line of README", kit, re.search(r"`(rattle-kit-\S+ logic \w+)`", readme)[1])
-    print("\n".join(wrong) if wrong else f"tables: {len(rows)} rows, {pages} pages and the words of the fronts agree with the documents")
+    wrong.extend(f"compared {compared[it]} {it}, fewer than {least}: does tables.py still find them?" for it, least in LEAST.items() if compared[it] < least)
+    counted = ", ".join(f"{compared[it]} {it}" for it in LEAST)
+    print("\n".join(wrong) if wrong else f"tables: {counted}: the words of the fronts agree with the documents")
     return 1 if wrong else 0

@@ -1,6 +1,6 @@
 -- The status and the output that belong to the arguments and the files. If a named file is missing,
 -- no case applies.
--- Stated by: bench_reports, bench_top, theorems. Used by: bench_outcomes.
+-- Stated by: bench_reports, bench_top, theorems. Used by: bench_outcomes, front_top.
 use Rattle.std.specs.Prelude.{◌≡◌, ℕ, ◌<◌, ◌⊎◌, List, length, take, Bool, true, false, Option, Some, None}
 use Rattle.outside.specs.Common.{NamedFile, appended}
 use Rattle.graph_core.specs.Common.{Graph}

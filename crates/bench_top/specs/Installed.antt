@@ -1,6 +1,6 @@
 -- What a run of the installed program was given and what it printed: its shelf notes the files that
 -- it gives, and its sink the bytes that it takes.
--- Stated by: bench_top, theorems.
+-- Stated by: bench_top, theorems. Used by: front_top.
 use Rattle.std.specs.Prelude.{◌≡◌, ℕ, ◌+◌, List, [], ◌∷◌, ◌++◌, ◌⊎◌, length, false, Option, Some, None, option_map}
 use Rattle.outside.specs.Common.{HasPrinted, IsOpened, NamedFile, OpenState, PrintState, named_texts}
 use Rattle.bench_reports.specs.from_bench_tasks.Common.{Command, by_place, command_of, names_in, place_name}

@@ -1,8 +1,9 @@
 -- For two vertices u and v of a bicritical graph, q(u) + q(v) is at most 2 s plus the number of
 -- members that separate u from v. The sums over a perfect matching of G and over one of G - u - v
--- differ by q(u) + q(v).
+-- differ by q(u) + q(v). A loop is in no perfect matching, so the sums need no balance at loops.
 use Rattle.graph_core.proofs.from_counting.Common.{◌≡◌, ℕ, suc, zero, ◌+◌, ◌*◌, ◌≤◌, ◌≢◌, Bool, true, false, ◌==◌, ◌&&◌, ◌||◌, not, List, [], ◌∷◌, sym, ap, ap₂, ◌∙◌, arith, mul-add, All, both_ways, All-head, All-tail, odd-double, total_add, total_congr, total_none, Within, bit, count, is_odd, total, Set, none, pair_set}
 use Rattle.graph_core.proofs.Common.{degrees, Graph, IsGraph, degree, edges_in_cut, first_end, in_cut, inside, second_end, size, IsPerfect, IsTight}
+use Rattle.separation_kit.proofs.from_barrier_kit.Common.{loop_free}
 use Rattle.brick_kit.specs.Balances.{IsBalanced, apart, parts}
 use Rattle.brick_kit.proofs.EndSums.{alone, ends_weight}
 use Rattle.brick_kit.specs.Weights.{sum_over}
@@ -15,7 +16,7 @@ pair_total g m a b f wa wb d p = sym (
     ∙ ap (λ k. total g.order (λ v. f v * degree g m v) + k) (total_add g.order (λ v. bit (a == v) * f v) (λ v. bit (b == v) * f v) ∙ ap₂ ◌+◌ (alone g.order f a wa) (alone g.order f b wb)))
 
 -- the edges of m in the cuts of a list, edge by edge
-cut_sums : (g : Graph) (m : Set) (xs : List Set) → total (size g) (λ e. bit (m e) * apart xs (first_end g e) (second_end g e)) ≡ sum_over (edges_in_cut g m) xs
+pub cut_sums : (g : Graph) (m : Set) (xs : List Set) → total (size g) (λ e. bit (m e) * apart xs (first_end g e) (second_end g e)) ≡ sum_over (edges_in_cut g m) xs
 cut_sums g m [] = total_none (size g) _ (λ e w. omega arith)
 cut_sums g m (x ∷ xs) =
     total_congr (size g) _ _ (λ e w. split (m e) (in_cut g x e) (apart xs (first_end g e) (second_end g e)))
@@ -25,12 +26,16 @@ cut_sums g m (x ∷ xs) =
     split : (a c : Bool) (k : ℕ) → bit a * (bit c + k) ≡ bit (a && c) + bit a * k
     split a c k = grind arith
 
-pub balance_total : (g : Graph) (s : ℕ) (q : ℕ → ℕ) (xs : List Set) (m : Set) → IsGraph g → IsBalanced g s q xs → total g.order (λ v. q v * degree g m v) ≡ total g.order (λ v. s * degree g m v) + sum_over (edges_in_cut g m) xs
-balance_total g s q xs m is bal =
+pub balance_total : (g : Graph) (s : ℕ) (q : ℕ → ℕ) (xs : List Set) (m : Set) → IsGraph g → IsBalanced g s q xs → ((e : ℕ) → Within (size g) e → m e ≡ true → first_end g e ≢ second_end g e) →
+    total g.order (λ v. q v * degree g m v) ≡ total g.order (λ v. s * degree g m v) + sum_over (edges_in_cut g m) xs
+balance_total g s q xs m is bal loop_free_edges =
     ends_weight g q m is
-    ∙ total_congr (size g) _ _ (λ e w. ap (λ k. bit (m e) * k) (bal.each e w) ∙ mul-add (bit (m e)) (s + s) (apart xs (first_end g e) (second_end g e)))
+    ∙ total_congr (size g) _ _ (λ e w. term (m e) (q (first_end g e) + q (second_end g e)) ((s + s) + apart xs (first_end g e) (second_end g e)) (λ t. bal.each e w (loop_free_edges e w t)) ∙ mul-add (bit (m e)) (s + s) (apart xs (first_end g e) (second_end g e)))
     ∙ total_add (size g) (λ e. bit (m e) * (s + s)) (λ e. bit (m e) * apart xs (first_end g e) (second_end g e))
     ∙ ap₂ ◌+◌ (sym (ends_weight g (λ v. s) m is)) (cut_sums g m xs)
+  where
+    term : (b : Bool) (i j : ℕ) → (b ≡ true → i ≡ j) → bit b * i ≡ bit b * j
+    term b i j h = grind arith
 
 pub odd_or_parted : (g : Graph) (m x : Set) (a b : ℕ) → IsGraph g → Within g.order a → Within g.order b → a ≢ b → IsPerfect g (pair_set a b) m → is_odd (count g.order x) ≡ true → 1 ≤ edges_in_cut g m x + bit (parts x a b)
 odd_or_parted g m x a b is wa wb d p odd = go (x a) (x b) (edges_in_cut g m x) (count (size g) (λ e. m e && inside g x e)) (count g.order x)
@@ -66,8 +71,8 @@ pub pair_bound : (g : Graph) (s : ℕ) (q : ℕ → ℕ) (xs : List Set) (p m : 
 pair_bound g s q xs p m a b is bal pp wa wb d pm =
     pair_numbers (total g.order q) (total g.order (λ v. q v * degree g m v)) (total g.order (λ v. s)) (total g.order (λ v. s * degree g m v)) s
     (sum_over (edges_in_cut g p) xs) (sum_over (edges_in_cut g m) xs) (apart xs a b) (q a) (q b)
-    (sym (freed q) ∙ balance_total g s q xs p is bal ∙ ap (λ k. k + sum_over (edges_in_cut g p) xs) (freed (λ v. s)))
-    (balance_total g s q xs m is bal)
+    (sym (freed q) ∙ balance_total g s q xs p is bal (loop_free g none p is pp) ∙ ap (λ k. k + sum_over (edges_in_cut g p) xs) (freed (λ v. s)))
+    (balance_total g s q xs m is bal (loop_free g (pair_set a b) m is pm))
     (pair_total g m a b q wa wb d pm)
     (pair_total g m a b (λ v. s) wa wb d pm)
     (members_crossed g p m a b xs is pp wa wb d pm bal.tight)

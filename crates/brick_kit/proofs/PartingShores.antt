@@ -1,7 +1,7 @@
 -- Two edges of the cut of a member without a common end: another member separates the one from the
 -- other. The numbers at the four ends say that the members separate the ends of the edges less
 -- often than the ends on the two sides.
-use Rattle.graph_core.proofs.from_counting.Common.{◌≡◌, ℕ, ◌+◌, ◌≤◌, ◌<◌, ◌≢◌, Bool, true, false, ◌&&◌, ◌||◌, not, List, [], ◌∷◌, refl, ap₂, ◌∙◌, arith, inl, inr, All, cases_lt, All-cons, All-head, All-tail, Within, bit, Set}
+use Rattle.graph_core.proofs.from_counting.Common.{◌≡◌, ℕ, ◌+◌, ◌≤◌, ◌<◌, ◌≢◌, Bool, true, false, ◌&&◌, ◌||◌, not, List, [], ◌∷◌, refl, sym, ap, ap₂, ◌∙◌, true≢false, arith, inl, inr, All, cases_lt, All-cons, All-head, All-tail, Within, bit, Set}
 use Rattle.graph_core.proofs.Common.{Graph, HasEnds, IsGraph, size, IsTight}
 use Rattle.brick_kit.proofs.CutEnds.{ends_within}
 use Rattle.brick_kit.proofs.SetSums.{sum_plus}
@@ -49,9 +49,12 @@ some_less g f h (x ∷ xs) l = elim (cases_lt (f x) (h x)) [
 pub apart_turned : (xs : List Set) (u v : ℕ) → apart xs u v ≡ apart xs v u
 apart_turned xs u v = grind arith
 
--- the balance at an edge, by its ends in either order
-pub balance_ends : (g : Graph) (s : ℕ) (q : ℕ → ℕ) (xs : List Set) (e u v : ℕ) → IsBalanced g s q xs → Within (size g) e → HasEnds g e u v → q u + q v ≡ (s + s) + apart xs u v
-balance_ends g s q xs e u v b w ends = grind arith
+-- the balance at an edge that is not a loop, by its ends in either order
+pub balance_ends : (g : Graph) (s : ℕ) (q : ℕ → ℕ) (xs : List Set) (e u v : ℕ) → IsBalanced g s q xs → Within (size g) e → HasEnds g e u v → u ≢ v → q u + q v ≡ (s + s) + apart xs u v
+balance_ends g s q xs e u v b w ends differ = grind (arith, b.each e w)
+
+in_and_out : (x : Set) (u v : ℕ) → x u ≡ true → x v ≡ false → u ≢ v
+in_and_out x u v xu xv same = true≢false (sym xu ∙ ap x same ∙ xv)
 
 parting_numbers : (s2 qu qv qu' qv' a b c d : ℕ) → qu + qv ≡ s2 + (1 + a) → qu' + qv' ≡ s2 + (1 + b) → qu + qu' ≤ s2 + (0 + c) → qv + qv' ≤ s2 + (0 + d) → a + b < c + d
 parting_numbers s2 qu qv qu' qv' a b c d h i j k = omega arith
@@ -65,8 +68,8 @@ parting g s q x xs is b bound d = let r = some_less g (λ t. bit (parts t d.u d.
   where
     few : apart xs d.u d.v + apart xs d.u' d.v' < apart xs d.u d.u' + apart xs d.v d.v'
     few = parting_numbers (s + s) (q d.u) (q d.v) (q d.u') (q d.v') (apart xs d.u d.v) (apart xs d.u' d.v') (apart xs d.u d.u') (apart xs d.v d.v')
-        (balance_ends g s q (x ∷ xs) d.e d.u d.v b d.e_real d.e_ends ∙ ap₂ (λ i j. (s + s) + (bit ((i && not j) || (not i && j)) + apart xs d.u d.v)) d.ins.0 d.outs.0)
-        (balance_ends g s q (x ∷ xs) d.f d.u' d.v' b d.f_real d.f_ends ∙ ap₂ (λ i j. (s + s) + (bit ((i && not j) || (not i && j)) + apart xs d.u' d.v')) d.ins.1 d.outs.1)
+        (balance_ends g s q (x ∷ xs) d.e d.u d.v b d.e_real d.e_ends (in_and_out x d.u d.v d.ins.0 d.outs.0) ∙ ap₂ (λ i j. (s + s) + (bit ((i && not j) || (not i && j)) + apart xs d.u d.v)) d.ins.0 d.outs.0)
+        (balance_ends g s q (x ∷ xs) d.f d.u' d.v' b d.f_real d.f_ends (in_and_out x d.u' d.v' d.ins.1 d.outs.1) ∙ ap₂ (λ i j. (s + s) + (bit ((i && not j) || (not i && j)) + apart xs d.u' d.v')) d.ins.1 d.outs.1)
         (at_most (q d.u + q d.u') (apart xs d.u d.u') (x d.u) (x d.u') true d.ins.0 d.ins.1 (bound d.u d.u' (ends_within g is d.e d.u d.v d.e_real d.e_ends).0 (ends_within g is d.f d.u' d.v' d.f_real d.f_ends).0 d.differ.0))
         (at_most (q d.v + q d.v') (apart xs d.v d.v') (x d.v) (x d.v') false d.outs.0 d.outs.1 (bound d.v d.v' (ends_within g is d.e d.u d.v d.e_real d.e_ends).1 (ends_within g is d.f d.u' d.v' d.f_real d.f_ends).1 d.differ.1))
       where

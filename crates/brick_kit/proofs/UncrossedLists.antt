@@ -23,11 +23,11 @@ balance_uncrossed g s q x t rest is cov b odd =
     let tt = All-head (IsTight g) t rest tail in
     record {
       tight = All-cons (IsTight g) (meet x t) (union x t ∷ rest) (meet_tight g is cov x t tx tt odd) (All-cons (IsTight g) (union x t) rest (union_tight g is cov x t tx tt odd) (All-tail (IsTight g) t rest tail));
-      each = λ e w. settle (q (first_end g e) + q (second_end g e)) (s + s) (bit (parts x (first_end g e) (second_end g e))) (bit (parts t (first_end g e) (second_end g e)))
+      each = λ e w d. settle (q (first_end g e) + q (second_end g e)) (s + s) (bit (parts x (first_end g e) (second_end g e))) (bit (parts t (first_end g e) (second_end g e)))
           (bit (parts (meet x t) (first_end g e) (second_end g e))) (bit (parts (union x t) (first_end g e) (second_end g e)))
           (bit ((minus x t (first_end g e) && minus t x (second_end g e)) || (minus t x (first_end g e) && minus x t (second_end g e))))
           (apart rest (first_end g e) (second_end g e))
-          (b.each e w) (parts_uncrossed x t (first_end g e) (second_end g e)) (ap bit (no_edge_joins g is cov x t tx tt odd e w));
+          (b.each e w d) (parts_uncrossed x t (first_end g e) (second_end g e)) (ap bit (no_edge_joins g is cov x t tx tt odd e w));
     }
   where
     settle : (l s2 a b c d z r : ℕ) → l ≡ s2 + (a + (b + r)) → a + b ≡ c + d + 2 * z → z ≡ 0 → l ≡ s2 + (c + (d + r))
@@ -36,7 +36,7 @@ balance_uncrossed g s q x t rest is cov b odd =
 pub balance_picked : (g : Graph) (s : ℕ) (q : ℕ → ℕ) (x t : Set) (xs rest : List Set) → Picked g xs t rest → IsBalanced g s q (x ∷ xs) → IsBalanced g s q (x ∷ t ∷ rest)
 balance_picked g s q x t xs rest p b = let k = p.tight (All-tail (IsTight g) x xs b.tight) in record {
   tight = All-cons (IsTight g) x (t ∷ rest) (All-head (IsTight g) x xs b.tight) (All-cons (IsTight g) t rest k.0 k.1);
-  each = λ e w. b.each e w ∙ ap (λ k. (s + s) + (bit (parts x (first_end g e) (second_end g e)) + k)) (p.sums (λ y. bit (parts y (first_end g e) (second_end g e))));
+  each = λ e w d. b.each e w d ∙ ap (λ k. (s + s) + (bit (parts x (first_end g e) (second_end g e)) + k)) (p.sums (λ y. bit (parts y (first_end g e) (second_end g e))));
 }
 
 -- a set and its complement part the same vertices
@@ -46,13 +46,13 @@ parts_turned t u v = grind arith
 pub balance_turned : (g : Graph) (s : ℕ) (q : ℕ → ℕ) (x t : Set) (rest : List Set) → IsBalanced g s q (x ∷ t ∷ rest) → IsBalanced g s q (x ∷ complement t ∷ rest)
 balance_turned g s q x t rest b = let tail = All-tail (IsTight g) x (t ∷ rest) b.tight in record {
   tight = All-cons (IsTight g) x (complement t ∷ rest) (All-head (IsTight g) x (t ∷ rest) b.tight) (All-cons (IsTight g) (complement t) rest (tight-turned g t (All-head (IsTight g) t rest tail)) (All-tail (IsTight g) t rest tail));
-  each = λ e w. b.each e w ∙ ap (λ k. (s + s) + (bit (parts x (first_end g e) (second_end g e)) + (bit k + apart rest (first_end g e) (second_end g e)))) (parts_turned t (first_end g e) (second_end g e));
+  each = λ e w d. b.each e w d ∙ ap (λ k. (s + s) + (bit (parts x (first_end g e) (second_end g e)) + (bit k + apart rest (first_end g e) (second_end g e)))) (parts_turned t (first_end g e) (second_end g e));
 }
 
 pub balance_exchanged : (g : Graph) (s : ℕ) (q : ℕ → ℕ) (x t : Set) (rest : List Set) → IsBalanced g s q (x ∷ t ∷ rest) → IsBalanced g s q (t ∷ x ∷ rest)
 balance_exchanged g s q x t rest b = let tail = All-tail (IsTight g) x (t ∷ rest) b.tight in record {
   tight = All-cons (IsTight g) t (x ∷ rest) (All-head (IsTight g) t rest tail) (All-cons (IsTight g) x rest (All-head (IsTight g) x (t ∷ rest) b.tight) (All-tail (IsTight g) t rest tail));
-  each = λ e w. omega arith;
+  each = λ e w d. let c = b.each e w d in omega arith;
 }
 
 pub spread_same : (n : ℕ) (xs ys : List Set) → ((u v : ℕ) → apart xs u v ≡ apart ys u v) → spread n xs ≡ spread n ys

@@ -4,6 +4,7 @@
 use Rattle.std.specs.Prelude.{ℕ, ◌==◌, ◌||◌, Bool, List, [], ◌++◌, codes, length, nat_lt, if◌then◌else◌, decimal, Option, None, Some, bytes_eq}
 use Rattle.line_text.specs.declared.faults.FaultKind.{FaultKind}
 use Rattle.line_text.specs.declared.faults.FaultKind.TheVariants.{Header, Word, Number, Range, Loop, Limit, Missing, Extra, NotRising, HasGreatest, Unnamed, SameName, BadName, Padding, LongForm}
+use Rattle.line_text.specs.FaultKinds.{kind_number}
 use Rattle.outside.specs.Common.{most_line}
 use Rattle.outside.specs.declared.explain.FailureReason.{FailureReason}
 use Rattle.front_words.specs.EmptyLines.{empty_words}
@@ -57,9 +58,9 @@ list_fault BadName text = graph6_fault BadName
 list_fault Padding text = graph6_fault Padding
 list_fault LongForm text = graph6_fault LongForm
 
--- what joins the number of the line to what is wrong with it
+-- what joins the numbers of the line and of the kind to what is wrong with the line
 abbrev pub list_joint : (text : List ℕ) → List ℕ
-list_joint text = if is_blank_line text then codes " " else codes ": "
+list_joint text = if is_blank_line text then codes ": the line " else codes ": "
 
 -- what is wrong with the line: it is empty, or has a fault of that kind
 abbrev pub bad_line_words : FaultKind → (text : List ℕ) → List ℕ
@@ -70,7 +71,7 @@ abbrev pub line_kept : (text : List ℕ) → Option (List ℕ)
 line_kept text = some_line (line_at text 1)
 
 -- the first bad line of a list has that number and a fault of that kind, and this text as far as
--- it was kept
+-- it was kept: the message begins with the two numbers, which programs read
 abbrev pub bad_line_text : (program : List ℕ) (number : ℕ) (kind : FaultKind) (text : List ℕ) → List ℕ
 bad_line_text program number kind text =
-    program ++ (codes ": line " ++ (decimal number ++ (list_joint text ++ (bad_line_words kind text ++ (opening_note text ++ (codes "\n" ++ line_shown program number (line_kept text)))))))
+    program ++ (codes ": line " ++ (decimal number ++ (codes " kind " ++ (decimal (kind_number kind) ++ (list_joint text ++ (bad_line_words kind text ++ (opening_note text ++ (codes "\n" ++ line_shown program number (line_kept text)))))))))

@@ -108,11 +108,15 @@ fn is_blank_line(text: &[u8]) -> bool
     text == b"\n".as_slice() || text == b"\r\n".as_slice()
 }
 
-// What joins the number of the line to what is wrong with it.
+// What joins the numbers of the line and of the kind to what is wrong with the line.
 fn list_joint(text: &[u8]) -> &'static str
     ensures { result.now ≡ list_joint text.now }
 {
-    if is_blank_line(text) { " " } else { ": " }
+    if is_blank_line(text) {
+        ": the line "
+    } else {
+        ": "
+    }
 }
 
 // What is wrong with the line: it is empty, or has a fault of that kind.
@@ -133,9 +137,10 @@ fn line_kept(text: &[u8]) -> Option<&[u8]>
     some_line(line_at(text, 1))
 }
 
-/// Says of the first bad line of a list its number and what is wrong with it, and the line,
-/// unless it is empty. Its kind of fault is given, and its text with its line end,
-/// as far as it was kept; the text is empty if the line is missing. Takes no memory.
+/// Says of the first bad line of a list its number, the number of its kind of fault and what is
+/// wrong with it, and the line, unless it is empty. Its kind of fault is given, and its text with
+/// its line end, as far as it was kept; the text is empty if the line is missing. The message
+/// begins `PROGRAM: line L kind K: `, which programs read. Takes no memory.
 pub fn say_bad_line<'a, K: Sink>(
     sink: &mut K,
     program: &'a str,
@@ -148,6 +153,7 @@ pub fn say_bad_line<'a, K: Sink>(
 {
     let by = Text(program);
     let line = Number(number);
+    let of_kind = Number(u64::from(kind.number()));
     let joint = Text(list_joint(text));
     let what = Text(list_words(kind, text));
     let opening = Text(opening_note(text));
@@ -161,6 +167,8 @@ pub fn say_bad_line<'a, K: Sink>(
                     by,
                     Text(": line "),
                     line,
+                    Text(" kind "),
+                    of_kind,
                     joint,
                     what,
                     opening,
@@ -176,7 +184,17 @@ pub fn say_bad_line<'a, K: Sink>(
         }
         None => say(
             sink,
-            &[by, Text(": line "), line, joint, what, opening, end],
+            &[
+                by,
+                Text(": line "),
+                line,
+                Text(" kind "),
+                of_kind,
+                joint,
+                what,
+                opening,
+                end,
+            ],
         ),
     }
 }

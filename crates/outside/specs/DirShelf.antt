@@ -1,5 +1,5 @@
 -- A shelf of real files as its users see it.
--- Stated by: outside.
+-- Stated by: outside, theorems. Used by: bench_top, front_top.
 use Rattle.std.specs.Prelude.{◌≡◌, ℕ, List, [], ◌∷◌, ◌++◌, length, Option, Ok, Err}
 use Rattle.outside.specs.declared.explain.FailureReason.{FailureReason}
 use Rattle.outside.specs.Faults.{next_fault}

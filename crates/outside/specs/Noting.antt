@@ -1,5 +1,5 @@
 -- A shelf that notes the files that a runtime gave, and what was given in turn.
--- Stated by: outside.
+-- Stated by: outside. Used by: bench_top, front_top, theorems.
 use Rattle.std.specs.Prelude.{◌≡◌, ℕ, List, [], ◌∷◌, ◌++◌, Ok}
 use Rattle.outside.specs.Shelf.{Answer, NamedFile}
 

@@ -1,5 +1,5 @@
 -- A stream of a runtime as its users see it.
--- Stated by: outside.
+-- Stated by: outside, theorems. Used by: bench_top, front_top.
 use Rattle.std.specs.Prelude.{◌≡◌, ℕ, Bool, List, ◌++◌, take}
 use Rattle.outside.specs.Faults.{MayCount}
 

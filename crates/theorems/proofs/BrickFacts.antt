@@ -51,7 +51,7 @@ pub brick_facts_of : (g : Graph) → IsMultigraph g → IsCovered g → (IsBipar
 brick_facts_of g is cov odd none = let f = brick_facts g is.ends cov (no_sides g is.no_loop odd) none in (f.0, f.1, λ u v p. f.2 u v p.first p.second p)
 
 pub brick_from : (g : Graph) → IsMultigraph g → 4 ≤ g.order → IsBicritical g → ((u v : ℕ) → IsCutPair g u v → ⊥) → IsCovered g × (IsBipartite g → ⊥) × HasOnlyTrivialTightCuts g
-brick_from g is four bi no_pair = grind (arith, covered, pair_or_three, not_bipartite, no_shore)
+brick_from g is four bi no_pair = grind (arith, covered, pair_or_three, not_bipartite, no_shore g is.ends)
 
 -- a brick, by 3-connectedness
 pub three_brick : (g : Graph) → IsMultigraph g → (IsCovered g × (IsBipartite g → ⊥) × HasOnlyTrivialTightCuts g) ↔ (IsThreeConnected g × IsBicritical g)

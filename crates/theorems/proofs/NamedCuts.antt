@@ -39,7 +39,7 @@ separation_of g u v is bi p =
 
 pub named_cut : (g : Graph) (x : Set) → IsMultigraph g → IsCovered g → IsTight g x → IsNontrivial g.order x → ((s : Set) × IsBarrier g s × BarrierCut g s) ⊎ ((u : ℕ) × (v : ℕ) × SeparationCut g u v)
 named_cut g x is cov t wide = elim (critical_or_not g) [
-  | inl bi ↦ let p = shore_pair g x is cov bi t wide in inr (p.0, p.1, separation_of g p.0 p.1 is bi p.2)
+  | inl bi ↦ let p = shore_pair g x is.ends cov bi t wide in inr (p.0, p.1, separation_of g p.0 p.1 is bi p.2)
   | inr n ↦ elim (bipartite-or g is.ends) [
     | inl sides ↦ let b = shore_barrier g is.ends cov x t sides.0 (λ e w d. sides.1 e w) in let k = b.1 in inl (b.0, k.barrier, barrier_cut_of g x b.0 is.ends t wide k)
     | inr odd ↦ let c = class_cut g is.ends cov (no_sides g is.no_loop odd) n in inl (c.2.0, class_barrier g c.0 c.2.0 is.ends cov c.1 c.2.1, c.2.2)

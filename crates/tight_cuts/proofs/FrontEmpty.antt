@@ -22,7 +22,7 @@ module _ (g : Graph) (is : IsMultigraph g) (cov : IsCovered g) (odd_cycle : IsBi
       bicritical : IsBicritical g → ⊥
       bicritical bi =
           let none = map-none (candidate_at g.order Separation) (separation_cuts g) (front-separations g (bicritical_no_cuts g is.ends cov bi) ∙ front) in
-          no_shore g is cov bi (λ u v pair. pair_some_cut g is.ends bi four u v pair none) x tx wide
+          no_shore g is.ends cov bi (λ u v pair. pair_some_cut g is.ends bi four u v pair none) x tx wide
 
       at : (o : Option (ℕ × ℕ)) → equivalent_pair g ≡ o → ⊥
       at (Some k) q = some_cut g is.ends cov (no_sides g is.no_loop odd_cycle) bicritical

@@ -1,6 +1,6 @@
 -- The pick format: a header `s mcg K`, and K lines `pick P`. The text stands for the list of the
 -- K numbers.
--- Stated by: tree_text, bench_tasks.
+-- Stated by: tree_text, bench_tasks. Used by: bench_top.
 use Rattle.std.specs.Prelude.{ℕ, ◌==◌, not, nat_lt, List, [], ◌∷◌, ◌++◌, length, codes, Result, Ok, Err, if◌then◌else◌}
 use Rattle.graph_core.specs.from_line_text.Common.{Rules, checked, has_form, word_at, is_number, value_of}
 use Rattle.graph_core.specs.from_line_text.declared.faults.FaultKind.{FaultKind}
