@@ -1,26 +1,29 @@
 -- What a stop carries at its place, and the sizes of the graph that the first file stands for.
 -- Idea: the first load was good, so its one read gave the graph; a later stop carries its sizes.
-use Rattle.std.proofs.Common.{◌≡◌, ◌∙◌, ℕ, ◌-◌, List, [], ◌∷◌, ◌++◌, Option, Some, None, Ok, ap, sym, subst, arith, slice_get, length}
+use Rattle.std.proofs.Common.{◌≡◌, ◌∙◌, ℕ, zero, suc, ◌-◌, List, [], ◌∷◌, ◌++◌, Option, Some, None, Result, Ok, Err, IfErr, ap, refl, sym, subst, arith, slice_get, length}
 use Rattle.std.proofs.lemmas.Option.{none-some, same_Some}
 use Rattle.graph_core.specs.Common.{size}
 use Rattle.graph_text.specs.Common.{named_graph}
 use Rattle.graph_text.specs.declared.named.Named.{Named}
 use Rattle.outside.specs.Common.{Answer, AnswersInTurn, NamedFile}
 use Rattle.outside.specs.declared.explain.FailureReason.{FailureReason}
-use Rattle.bench_tasks.specs.Common.{CarriesFile, CarriesSizes, File, GaveSizes, HoldGiven, LoadsAnswered, LoadsAs, StopsAt, StopsOn, graph_file, place_name, sizes_held}
+use Rattle.bench_tasks.specs.Common.{CarriesFile, CarriesSizes, File, file_seen, GaveSizes, HoldGiven, LoadsAnswered, LoadsAs, StopsAt, StopsOn, graph_file, place_name, sizes_held}
+use Rattle.bench_tasks.proofs.AnswersMade.{IsMade}
 use Rattle.bench_tasks.specs.declared.stop.Stop.{Stop}
 use Rattle.bench_tasks.specs.declared.stop.Stop.TheVariants.{ReadFault, Bad, Memory}
 
 -- a stop at a place, at the file there, carries it
 pub carries-at : (files : List File) (place : ℕ) (file : File) (sizes : Option (ℕ × ℕ)) (reason : Option FailureReason) (stopped : Stop) → slice_get files (place - 1) ≡ Some file → StopsAt place stopped → StopsOn file sizes reason stopped →
     CarriesFile files reason stopped
-carries-at files place file sizes reason (ReadFault at unread) is here on = (subst (λ (p : ℕ). slice_get files (p - 1) ≡ Some _) (sym here) (is ∙ ap Some (sym on.0)), on.1)
-carries-at files place file sizes reason (Bad at line kind found) is here on = subst (λ (p : ℕ). slice_get files (p - 1) ≡ Some _) (sym here) (is ∙ ap Some (sym on.0))
+carries-at files place file sizes reason (ReadFault at unread) is here on = (subst (λ (p : ℕ). slice_get files (p - 1) ≡ Some (file_seen unread.file)) (sym here) (is ∙ ap Some (sym on.0)), on.1)
+carries-at files place file sizes reason (Bad at line kind found) is here on = subst (λ (p : ℕ). slice_get files (p - 1) ≡ Some (file_seen found.file)) (sym here) (is ∙ ap Some (sym on.0))
 carries-at files place file sizes reason Memory is here on = tt
 
 -- what stands in a list stands there where further items follow
 get-more : {A : Type 0} (list more : List A) (place : ℕ) (item : A) → slice_get list place ≡ Some item → slice_get (list ++ more) place ≡ Some item
-get-more list more place item is = grind arith
+get-more [] more place item is = absurd (none-some item is)
+get-more (first ∷ list) more zero item is = is
+get-more (first ∷ list) more (suc place) item is = get-more list more place item is
 
 -- further files change nothing of what is carried
 pub carries-more : (files more : List File) (reason : Option FailureReason) (stopped : Stop) → CarriesFile files reason stopped → CarriesFile (files ++ more) reason stopped
@@ -51,3 +54,19 @@ module _ {S : Type 0} (reads : S → List ℕ → Answer → S → Type 0) (name
   carries-none file reason (ReadFault at unread) first on other is = absurd (none-some other is)
   carries-none file reason (Bad at line kind found) first on other is = absurd (none-some other (sym on.1 ∙ is))
   carries-none file reason Memory first on other is = absurd (none-some other is)
+
+-- what holds of the stop of a load holds where something is made of what was loaded
+pub stop-kept : {X Z A C : Type 0} (view : X → A) (out : Z → C) (make : A → C) (loaded : Result X Stop) (made : Result Z Stop) → IsMade view out make loaded made → (P : Stop → Type 0) → IfErr loaded P → IfErr made P
+stop-kept view out make (Ok x) (Ok z) is P holds = tt
+stop-kept view out make (Ok x) (Err stopped) is P holds = absurd is
+stop-kept view out make (Err stopped) made is P holds = subst (λ (m : Result _ Stop). IfErr m P) (sym is) holds
+
+-- the first file that is loaded is carried, and no sizes where it is for no graph
+pub first-carries : {X : Type 0} (file : File) (sizes : Option (ℕ × ℕ)) (reason : Option FailureReason) (loaded : Result X Stop) → IfErr loaded (StopsAt 1) → IfErr loaded (StopsOn file sizes reason) → IfErr loaded (CarriesFile (file ∷ []) reason)
+first-carries file sizes reason (Ok x) here on = tt
+first-carries file sizes reason (Err stopped) here on = carries-at (file ∷ []) 1 file sizes reason stopped refl here on
+
+pub first-sized : {S X : Type 0} (reads : S → List ℕ → Answer → S → Type 0) (name : List ℕ) (first : S) (file : File) (reason : Option FailureReason) (loaded : Result X Stop) → IfErr loaded (StopsOn file None reason) →
+    IfErr loaded (CarriesSizes reads name first)
+first-sized reads name first file reason (Ok x) on = tt
+first-sized reads name first file reason (Err stopped) on = carries-none reads name file reason stopped first on

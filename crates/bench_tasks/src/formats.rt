@@ -11,6 +11,7 @@ ghost use Rattle.move_text.specs.from_tree_text.Common.{pick_format, tree_format
 ghost use Rattle.move_text.specs.Common.{most_moves, move_format};
 ghost use Rattle.ear_text.specs.from_ear_core.Common.{FitsEars, PlainEars, ears_of};
 ghost use Rattle.ear_text.specs.EarFormat.{ear_format};
+ghost use Rattle.refusals.specs.declared.file_kind.FileKind.TheVariants as kinds;
 ghost use Rattle.bench_tasks.specs.Loads.{simple_graph_in};
 
 use crate::tasks::SimpleGraph;
@@ -85,7 +86,7 @@ impl FileFormat for GraphFile {
 
     ghost keeps = { λ _ _. Unit {0} };
 
-    ghost kind = { λ _. FileKind.Graph };
+    ghost kind = { λ _. kinds.Graph };
 
     ghost sizes = { λ _. None };
 
@@ -117,7 +118,7 @@ impl FileFormat for Graph6File {
 
     ghost keeps = { λ _ _. Unit {0} };
 
-    ghost kind = { λ _. FileKind.Graph6 };
+    ghost kind = { λ _. kinds.Graph6 };
 
     ghost sizes = { λ _. None };
 
@@ -154,7 +155,7 @@ impl<'a> FileFormat for TreeFile<'a> {
 
     ghost keeps = { λ format tree. Fits format.graph.now.order (shape_of tree) };
 
-    ghost kind = { λ _. FileKind.Tree };
+    ghost kind = { λ _. kinds.Tree };
 
     ghost sizes = { λ format. Some (format.graph.now.order, size format.graph.now) };
 
@@ -189,7 +190,7 @@ impl<'a> FileFormat for EarFile<'a> {
 
     ghost keeps = { λ format list. FitsEars format.graph.now.order (size format.graph.now) (ears_of list) };
 
-    ghost kind = { λ _. FileKind.Ears };
+    ghost kind = { λ _. kinds.Ears };
 
     ghost sizes = { λ format. Some (format.graph.now.order, size format.graph.now) };
 
@@ -225,7 +226,7 @@ impl<'a> FileFormat for MoveFile<'a> {
 
     ghost keeps = { λ _ moves. length moves ≤ most_moves };
 
-    ghost kind = { λ _. FileKind.Moves };
+    ghost kind = { λ _. kinds.Moves };
 
     ghost sizes = { λ format. Some (format.graph.now.order, size format.graph.now) };
 
@@ -258,7 +259,7 @@ impl FileFormat for PickFile {
 
     ghost keeps = { λ _ _. Unit {0} };
 
-    ghost kind = { λ _. FileKind.Picks };
+    ghost kind = { λ _. kinds.Picks };
 
     ghost sizes = { λ _. None };
 
