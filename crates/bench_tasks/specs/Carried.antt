@@ -1,6 +1,6 @@
 -- What a stop carries of the file that stopped the load: its name, what it was read as, its bytes,
 -- the sizes of the graph that it is for, and why it could not be read.
--- Stated by: bench_tasks, bench_top.
+-- Stated by: bench_tasks, front_top. Used by: bench_top.
 use Rattle.std.specs.Prelude.{◌≡◌, ℕ, ◌-◌, List, [], ◌∷◌, slice_get, Option, Some, None, option_map}
 use Rattle.outside.specs.Common.{Answer, bytes_in}
 use Rattle.outside.specs.declared.explain.FailureReason.{FailureReason}

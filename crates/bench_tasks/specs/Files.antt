@@ -1,6 +1,6 @@
 -- The files of a command: the one table that says which files it reads, in which order, and as
 -- what.
--- Stated by: bench_tasks, bench_top. Used by: front_top.
+-- Stated by: bench_tasks, bench_top.
 use Rattle.std.specs.Prelude.{ℕ, List, [], ◌∷◌, map}
 use Rattle.bench_tasks.specs.Commands.{Command, OnGraph, OnSimpleGraph, OnTree, OnPicks, OnEars, OnMoves, OnTrees, OnNumbers}
 use Rattle.refusals.specs.declared.file_kind.FileKind.{FileKind}

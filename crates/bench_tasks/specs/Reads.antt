@@ -1,5 +1,5 @@
 -- Which files a run reads, and in which order.
--- Stated by: bench_tasks, bench_top.
+-- Stated by: bench_tasks, bench_top. Used by: front_top.
 use Rattle.std.specs.Prelude.{◌≡◌, ◌≤◌, ◌<◌, List, [], ℕ, Bool, IsTrue, length, take, Option, Some, None, Result, Ok, Err}
 use Rattle.outside.specs.Common.{Answer, ReadsInTurn, ReadsFirst}
 use Rattle.bench_tasks.specs.Commands.{Command}

@@ -1,6 +1,6 @@
 -- How a run ended: why its files were not loaded, which of them were read, what was written of a
 -- bad one, and of a refusal.
--- Stated by: bench_top.
+-- Stated by: bench_top. Used by: front_top.
 use Rattle.std.specs.Prelude.{◌≡◌, ◌≤◌, ◌<◌, ℕ, List, Bool, IsTrue, length, take, Option, Some, None, Result, Ok, Err}
 use Rattle.outside.specs.Common.{Answer, AnswersInTurn, ReadsInTurn, appended}
 use Rattle.outside.specs.declared.explain.FailureReason.{FailureReason}
