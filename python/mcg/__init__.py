@@ -11,24 +11,42 @@ variables `MCG` and `MCG6` or else on the PATH, and give their reports in your o
     ['brick']
     >>> [kind.bricks for kind in mcg.kinds(["C~", "IheA@GUAo"])]
     [1, 1]
+    >>> print(mcg.decompose(edges))
+    <Decomposition of 4 vertices: 1 brick, 0 braces>
+    brick on 4 blocks: 'a', 'b', 'c', 'd'
 
 A graph is a graph of NetworkX or of Sage, a pair (vertices, edges), an iterable of edges, or a
 text in graph6 (see `Graph`), with at most 128 vertices and 2,048 edges.
 
 One graph: `analyse`, `decompose`, `check`, `ears`, `check_ears`, `compare`, `script`, `replay`.
-Lists of graphs, streamed through one process: `kinds`, `leaves`, `elementary`,
-`select`.
+Edges of matching covered graphs: `removable`, `b_invariant`, `removable_doubletons`, `thin`.
+Cuts and new graphs: `is_tight`, `contract`, `retract`, `bisubdivide`, `splice`, `is_petersen`.
+Lists of graphs, streamed: `kinds`, `leaves`, `elementary`, `select`.
+Each answer has a short `repr`, a text for `print`, and `to_dict` with `from_dict` (see `mcg.dicts`);
+it can be pickled.
+Pictures: the module `draw`, and the method `draw` of `Decomposition`, `Ears` and `Comparison`.
 Texts of the formats of Mcg: the methods `from_text` and `to_text` of `Graph`, `Decomposition`,
 `Picks`, `Ears` and `Moves`, and `from_text` of `Analysis`, `TreeCheck`, `EarsCheck`, `Comparison`
 and `Replay`.
 
-The package decides nothing about graphs; what is decided is decided by the programs. The one
-exception is `mcg.verify`, a second opinion that checks reports without them.
+Vertices and edges are in your own labels everywhere. Where something has a number, it counts from
+1, as in the reports and files: vertex k is `Graph(G).vertices[k - 1]`, edge k is
+`Graph(G).edges[k - 1]`, and so are nodes, steps and moves. Places in a list of Python count from 0:
+`index`, and the leaves in `Comparison.pairs`. The labels of a graph in graph6 are 0, 1, ..
+
+What is decided about graphs is decided by the programs, and each docstring says by which command.
+The package itself only does what needs no theorem: it counts degrees, contracts and splices, and
+recognises the Petersen graph. The one exception is `mcg.verify`, a second opinion that checks
+reports without the programs.
 """
+from . import draw
 from .analysis import Analysis, analyse
-from .comparisons import Comparison, Replay, compare, replay, script
+from .bricks import b_invariant, removable, removable_doubletons, thin
+from .comparisons import Comparison, compare, script
+from .contractions import Contraction, Contractions, contract, retract
 from .decompositions import Picks, Refusal, TreeCheck, check, decompose
-from .ear_lists import Ear, Ears, EarsCheck, check_ears, ears
+from .ear_checks import EarsCheck, check_ears
+from .ear_lists import Ear, Ears, ears
 from .errors import (
     BadGraph,
     BadInput,
@@ -42,9 +60,18 @@ from .errors import (
     TooLarge,
 )
 from .graphs import Graph
-from .lists import Kind, ListComponent, ListLeaf, elementary, kinds, leaves, select
+from .list_answers import Kind, ListComponent, ListLeaf
+from .lists import elementary, kinds, leaves, select
 from .moves import Moves, Rotate, Switch
+from .petersen import is_petersen
+from .properties import Order, Property
+from .replays import Replay, replay
+from .splices import bisubdivide, splice
+from .tightness import Tightness, is_tight
 from .trees import Cut, Decomposition, Leaf
+from .version import __version__
+
+from . import verify  # (last, as it is made of the rest)
 
 __all__ = [
     "Analysis",
@@ -52,6 +79,8 @@ __all__ = [
     "BadInput",
     "BadText",
     "Comparison",
+    "Contraction",
+    "Contractions",
     "Cut",
     "Decomposition",
     "Ear",
@@ -66,26 +95,42 @@ __all__ = [
     "Moves",
     "NotADerivation",
     "NotCovered",
+    "Order",
     "OutOfMemory",
     "Picks",
     "ProgramFailed",
     "ProgramMissing",
+    "Property",
     "Refusal",
     "Replay",
     "Rotate",
     "Switch",
+    "Tightness",
     "TooLarge",
     "TreeCheck",
+    "__version__",
     "analyse",
+    "b_invariant",
+    "bisubdivide",
     "check",
     "check_ears",
     "compare",
+    "contract",
     "decompose",
+    "draw",
     "ears",
     "elementary",
+    "is_petersen",
+    "is_tight",
     "kinds",
     "leaves",
+    "removable",
+    "removable_doubletons",
     "replay",
+    "retract",
     "script",
     "select",
+    "splice",
+    "thin",
+    "verify",
 ]

@@ -2,20 +2,31 @@
 from __future__ import annotations
 
 from dataclasses import dataclass
-from typing import Any, Dict, FrozenSet, List, Optional, Tuple
+from typing import Any, Dict, FrozenSet, List, Mapping, Optional, Tuple
 
+from . import dicts, report_texts
 from .errors import NotCovered
 from .graphs import Graph, GraphLike
+from .labels import Label, counted, shown
 from .programs import reported, run, understood
-from .sources import Edge, Label
+from .sources import Edge
+from .words import uncovered_words
 
 Pair = Tuple[Label, Label]
 
 # What is known of matching covered graphs alone.
 STRUCTURE = ("classes", "bicritical", "equivalent_pair", "cut_pair", "kind", "shore")
 
+# The fields that are numbers and texts, sets of vertices, and pairs of them.
+PLAIN = (
+    *("order", "size", "components", "bipartite", "matching_number", "deficiency"),
+    *("covered", "reason", "bicritical", "kind"),
+)
+SETS = ("D", "A", "C", "shore")
+PAIRS = ("equivalent_pair", "cut_pair")
 
-@dataclass(frozen=True)
+
+@dataclass(frozen=True, repr=False)
 class Analysis:
     """The structure of a graph, in the caller's labels.
 
@@ -30,9 +41,29 @@ class Analysis:
     `equivalent_pair`, the first two vertices of one class, None if it is bicritical; `cut_pair`,
     the first two vertices whose deletion disconnects the graph, or None; `kind`, `"brick"`,
     `"brace"` or `"composite"`; `shore`, one side of a nontrivial tight cut if it is composite.
-    "First" is by the order of `Graph(G).vertices`.
+    "First" is by the order of `Graph(G).vertices`. `graph` is the `Graph` that it is of.
 
     Sources: Lovász and Plummer, "Matching Theory" (1986), sections 3.2 and 5.2.
+
+    >>> import mcg
+    >>> path = mcg.analyse([("a", "b"), ("b", "c"), ("c", "d")])
+    >>> path
+    <Analysis of 4 vertices, 3 edges: not matching covered (edge)>
+    >>> path.allowed, path.C
+    ([('a', 'b'), ('c', 'd')], {'a', 'b', 'c', 'd'})
+    >>> print(path)
+    <Analysis of 4 vertices, 3 edges: not matching covered (edge)>
+    components: 1
+    bipartite: True
+    matching_number: 2
+    deficiency: 0
+    D: {}
+    A: {}
+    C: {'a', 'b', 'c', 'd'}
+    allowed: ('a', 'b'), ('c', 'd')
+    the graph is not matching covered: edge ('b', 'c') is in no perfect matching (leave out such edges: analyse lists the others as allowed)
+    >>> mcg.Analysis.from_dict(path.to_dict(), path.graph) == path
+    True
     """
 
     order: int
@@ -54,17 +85,74 @@ class Analysis:
     cut_pair: Optional[Pair]
     kind: Optional[str]
     shore: Optional[FrozenSet[Label]]
+    graph: Graph
+
+    def __hash__(self) -> int:
+        return hash((self.graph, self.reason, self.kind))
+
+    def __repr__(self) -> str:
+        sizes = f"{counted(self.order, 'vertex', 'vertices')}, {counted(self.size, 'edge')}"
+        return f"<Analysis of {sizes}: {self.kind or f'not matching covered ({self.reason})'}>"
+
+    def __str__(self) -> str:
+        """The lines of the report, in labels."""
+        sets = [f"{name}: {shown(getattr(self, name))}" for name in ("D", "A", "C")]
+        rows = [f"{name}: {getattr(self, name)}" for name in ("components", "bipartite", "matching_number", "deficiency")]
+        rows = [repr(self), *rows, *sets, f"allowed: {', '.join(map(shown, self.allowed))}"]
+        if not self.covered:
+            return "\n".join([*rows, uncovered_words(self.reason, self.witness)])
+        pairs = [f"{name}: {shown(getattr(self, name))}" for name in PAIRS]
+        classes = f"classes: {', '.join(map(shown, self.classes or []))}"
+        kind = f"kind: {self.kind}" if self.shore is None else f"kind: {self.kind}, shore {shown(self.shore)}"
+        return "\n".join([*rows, classes, f"bicritical: {self.bicritical}", *pairs, kind])
 
     @classmethod
     def from_text(cls, text: str, graph: GraphLike) -> Analysis:
         """Returns the report of `mcg analyse` on the graph, in its labels. Raises `BadText`."""
-        return _understood(text.splitlines(), Graph(graph))
+        return _understood(report_texts.lines_of(text), Graph(graph))
+
+    def to_dict(self) -> Dict[str, Any]:
+        """Returns the analysis as a dict with the names of its fields, by the rules of
+        `mcg.dicts`."""
+        made = {**dicts.head(self.graph), **{name: getattr(self, name) for name in PLAIN}}
+        for name in SETS:
+            found = getattr(self, name)
+            made[name] = None if found is None else self.graph.numbers(found)
+        for name in PAIRS:
+            pair = getattr(self, name)
+            made[name] = None if pair is None else [self.graph.number(it) for it in pair]
+        made["allowed"] = dicts.edge_numbers(self.graph, self.allowed)
+        made["classes"] = None if self.classes is None else [self.graph.numbers(it) for it in self.classes]
+        return {**made, "witness": dicts.witness(self.graph, self.reason, self.witness)}
+
+    @classmethod
+    def from_dict(cls, given: Mapping[str, Any], graph: GraphLike) -> Analysis:
+        """Returns the analysis of a dict that `to_dict` made, with the labels of the graph.
+        Raises `BadText` for another dict, or a graph with other edges."""
+        numbered = dicts.numbered(given, graph)
+        with dicts.understood("an analysis"):
+            made: Dict[str, Any] = {name: given[name] for name in PLAIN}
+            for name in SETS:
+                made[name] = None if given[name] is None else numbered.labels(given[name])
+            for name in PAIRS:
+                made[name] = None if given[name] is None else tuple(map(numbered.label, given[name]))
+            made["allowed"] = numbered.edge_list(given["allowed"])
+            listed = given["classes"]
+            made["classes"] = None if listed is None else [numbered.labels(it) for it in listed]
+            made["witness"] = dicts.read_witness(numbered, given["reason"], given["witness"])
+            analysis = cls(**made, graph=numbered)
+        dicts.demand_same(analysis.to_dict(), given)
+        return analysis
 
 
 def analyse(graph: GraphLike) -> Analysis:
     """Returns the structure of a graph with at most 128 vertices and 2,048 edges.
 
     Raises `BadGraph`, `TooLarge` and the exceptions on programs.
+
+    >>> import mcg
+    >>> mcg.analyse("C~").classes
+    [{0}, {1}, {2}, {3}]
     """
     numbered = Graph(graph)
     status, report = run("analyse", ["graph"], {"graph": numbered.to_text()})
@@ -74,7 +162,10 @@ def analyse(graph: GraphLike) -> Analysis:
 
 def _understood(report: List[str], graph: Graph) -> Analysis:
     with understood("analyse"):
-        return _read(report, graph)
+        found = _read(report, graph)
+        rows = report[:-1] if report[-1] == f"graph6 {graph.graph6()}" else report
+        report_texts.demand_begins(report_texts.analyse_lines(found), rows, "name")
+        return found
 
 
 def verdict(line: str, graph: Graph) -> Optional[Tuple[str, Any]]:
@@ -119,6 +210,7 @@ def _read(report: List[str], graph: Graph) -> Analysis:
     if (order, size) != (graph.order, graph.size):
         raise ValueError("the report is on another graph")
     general: Dict[str, Any] = {
+        "graph": graph,
         "order": order,
         "size": size,
         "components": int(due("components")[0]),

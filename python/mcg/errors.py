@@ -6,6 +6,8 @@ from __future__ import annotations
 
 from typing import Any, Optional
 
+from .words import uncovered_words
+
 # The kinds of faults in a file, by number, as docs/FORMATS.md has them.
 FAULTS = {
     1: "the header is missing, or is not that of this format and graph",
@@ -44,8 +46,14 @@ class Error(Exception):
 class BadInput(Error):
     """An input that is not what it must be: a graph, or the text of a file.
 
-    Attributes: `line`, the line of the text or the place of the graph in a list, counted from 1,
-    or None; `kind`, the number of the kind of error in docs/FORMATS.md, or None.
+    Attributes: `line`, the line of a text that the caller gave or the place of the graph in a
+    list, counted from 1, or None; `kind`, the number of the kind of error in docs/FORMATS.md, or
+    None.
+
+    >>> import mcg
+    >>> try: mcg.analyse([("a", "a")])
+    ... except mcg.BadInput as fault: print(fault, fault.kind)
+    the edge ('a', 'a') is a loop 5
     """
 
     def __init__(self, words: str, line: Optional[int] = None, kind: Optional[int] = None) -> None:
@@ -73,10 +81,15 @@ class NotCovered(Error):
     `"berge"` (no perfect matching) or `"edge"` (some edge is in no perfect matching). `witness`
     is None for `order`; two vertices in different components; a set S of vertices such that G - S
     has more than |S| odd components; or the first edge that is in no perfect matching.
+
+    >>> import mcg
+    >>> try: mcg.decompose([("a", "b"), ("b", "c"), ("c", "d")])
+    ... except mcg.NotCovered as why: print(why)
+    the graph is not matching covered: edge ('b', 'c') is in no perfect matching (leave out such edges: analyse lists the others as allowed)
     """
 
     def __init__(self, reason: str, witness: Any = None) -> None:
-        super().__init__(f"the graph is not matching covered: {reason} {witness!r}", reason, witness)
+        super().__init__(uncovered_words(reason, witness), reason, witness)
         self.reason = reason
         self.witness = witness
 
@@ -91,7 +104,7 @@ class NotADerivation(Error):
     """
 
     def __init__(self, place: int, refusal: Any) -> None:
-        super().__init__(f"tree {place} is refused: {refusal}", place, refusal)
+        super().__init__(f"tree {place} is not a tight cut decomposition; {refusal}", place, refusal)
         self.place = place
         self.refusal = refusal
 
@@ -108,7 +121,8 @@ class OutOfMemory(Error):
 
 
 class ProgramFailed(Error):
-    """The program ended in a way that no report explains.
+    """The program ended in a way that no report explains, or wrote what no report is; or it cannot
+    be run so that its end is known.
 
     Attributes: `status`, its exit status, or the number of a signal with a minus sign, or None.
     """

@@ -1,7 +1,7 @@
 """Texts in graph6, the format of nauty's programs, of NetworkX and of Sage."""
 from __future__ import annotations
 
-from typing import Iterable, Iterator, List, Tuple
+from typing import Iterable, Iterator, List, Optional, Tuple
 
 from .errors import FAULTS, LIMIT, BadGraph, TooLarge
 
@@ -21,11 +21,11 @@ def _size(order: int) -> str:
 def encode(order: int, ends: Iterable[Tuple[int, int]]) -> str:
     """Returns the text of the simple graph on the vertices 1 to `order` with these edges.
 
-    Of parallel edges one is kept. A graph with more than 128 vertices gets only the bytes of its
-    size, by which the programs refuse it. Takes time in the square of the order.
+    Of parallel edges one is kept. Takes time in the square of the order.
+
+    >>> encode(4, [(1, 2), (2, 3), (3, 4)])
+    'Ch'
     """
-    if order > MOST_VERTICES:
-        return _size(order)
     count = order * (order - 1) // 2
     bits = 0
     for a, b in {(min(pair), max(pair)) for pair in ends}:
@@ -59,6 +59,9 @@ def decode(text: str) -> Tuple[int, List[Tuple[int, int]]]:
 
     A header `>>graph6<<` and a line end are set aside. Raises `BadGraph` or `TooLarge`, with the
     kind of the first error by the order of docs/FORMATS.md.
+
+    >>> decode("Ch")
+    (4, [(1, 2), (2, 3), (3, 4)])
     """
     body = bare(text)
     if not body:
@@ -82,6 +85,19 @@ def decode(text: str) -> Tuple[int, List[Tuple[int, int]]]:
     if len(pairs) > MOST_EDGES:
         raise _fault(LIMIT)
     return order, pairs
+
+
+def fault_kind(line: bytes) -> Optional[int]:
+    """Returns the kind of the first error of a line of a list, None if it has none.
+
+    >>> fault_kind(b"x!"), fault_kind(b"C~")
+    (4, None)
+    """
+    try:
+        decode(line.decode("latin-1"))
+    except BadGraph as fault:
+        return fault.kind
+    return None
 
 
 def _pairs(order: int) -> Iterator[Tuple[int, int]]:

@@ -4,12 +4,14 @@ from __future__ import annotations
 import importlib
 import re
 from collections import Counter
-from typing import Any, Dict, FrozenSet, Iterable, List, Sequence, Tuple, Union
+from typing import Any, Dict, Iterable, List, Sequence, Tuple, Union
 
 from . import graph6, texts
-from .errors import BadGraph, BadText
+from .errors import LIMIT, BadGraph, BadText, TooLarge
 from .graph_texts import read_graph
-from .sources import Edge, Label, Source, edge_key, edge_numbers, parts_of
+from .labels import Label, VertexSet, counted, shown
+from .sage_graphs import sage_graph
+from .sources import Edge, Source, edge_key, edge_numbers, parts_of
 
 
 class Graph:
@@ -28,7 +30,17 @@ class Graph:
 
     Attributes: `vertices`, the labels, vertex k of a report being `vertices[k - 1]`; `edges`, the
     edges as they were given, edge k of a report being `edges[k - 1]`; `ends`, the ends of the
-    edges by number. Raises `BadGraph` for anything else.
+    edges by number. Raises `BadGraph` for anything else. Two are equal if they have the same
+    vertices and edges, in any order.
+
+    >>> graph = Graph([("u", "v", "old"), ("u", "v", "new"), ("v", "w")])
+    >>> graph, graph.vertices, graph.ends
+    (<Graph of 3 vertices, 3 edges>, ('u', 'v', 'w'), ((1, 2), (1, 2), (2, 3)))
+    >>> print(graph.to_text(), end="")
+    p mcg 3 3
+    e 1 2
+    e 1 2
+    e 2 3
     """
 
     vertices: Tuple[Label, ...]
@@ -50,15 +62,17 @@ class Graph:
             raise BadGraph(f"labels and keys must be hashable: {why}") from None
         if len(self._numbers) < len(self.vertices):
             twice = next(it for it, count in Counter(self.vertices).items() if count > 1)
-            raise BadGraph(f"the vertex {twice!r} is given twice", kind=texts.SAME_NAME)
+            raise BadGraph(f"the vertex {shown(twice)} is given twice", kind=texts.SAME_NAME)
         self.ends = tuple(self._ends_of(edge) for edge in self.edges)
 
     def _ends_of(self, edge: Edge) -> Tuple[int, int]:
         for it in edge[:2]:
             if it not in self._numbers:
-                raise BadGraph(f"the edge {edge!r}: {it!r} is not a vertex", kind=texts.UNNAMED)
+                raise BadGraph(
+                    f"the edge {shown(edge)}: {shown(it)} is not a vertex", kind=texts.UNNAMED
+                )
         if edge[0] == edge[1]:
-            raise BadGraph(f"the edge {edge!r} is a loop", kind=texts.LOOP)
+            raise BadGraph(f"the edge {shown(edge)} is a loop", kind=texts.LOOP)
         return self._numbers[edge[0]], self._numbers[edge[1]]
 
     @property
@@ -76,14 +90,14 @@ class Graph:
         try:
             return self._numbers[label]
         except (KeyError, TypeError):
-            raise BadText(f"{label!r} is not a vertex of the graph") from None
+            raise BadText(f"{shown(label)} is not a vertex of the graph") from None
 
     def edge_number(self, edge: Sequence[Any]) -> int:
         """Returns the number of an edge, from 1; its ends may come in either order."""
         try:
             return self._edge_numbers[edge_key(tuple(edge))]
         except (KeyError, TypeError):
-            raise BadText(f"{edge!r} is not an edge of the graph") from None
+            raise BadText(f"{shown(edge)} is not an edge of the graph") from None
 
     def label(self, number: int) -> Label:
         """Returns the vertex with this number, from 1. Raises `IndexError`."""
@@ -97,12 +111,13 @@ class Graph:
             raise IndexError(number)
         return self.edges[number - 1]
 
-    def labels(self, numbers: Iterable[int]) -> FrozenSet[Label]:
-        """Returns the set of the vertices with these numbers."""
-        return frozenset(self.label(k) for k in numbers)
+    def labels(self, numbers: Iterable[int]) -> VertexSet[Label]:
+        """Returns the set of the vertices with these numbers; it lists them in the order of
+        `vertices`."""
+        return VertexSet(self.label(k) for k in sorted(numbers))
 
     def numbers(self, labels: Iterable[Label]) -> List[int]:
-        """Returns the numbers of these vertices, rising."""
+        """Returns the numbers of these vertices, in increasing order."""
         return sorted(self.number(it) for it in labels)
 
     def edge_list(self, numbers: Iterable[int]) -> List[Edge]:
@@ -111,7 +126,8 @@ class Graph:
 
     def to_text(self) -> str:
         """Returns the graph file: version 1, or version 2 with the names v1, v2, .. if it is larger
-        than 64 vertices or 512 edges. It has the numbers and not the labels."""
+        than 64 vertices or 512 edges. It has the numbers and not the labels. Raises `TooLarge`."""
+        demand_size(self.order, self.size)
         rows = [f"p mcg {self.order} {self.size}"]
         prefix = ""
         if self.order > 64 or self.size > 512:
@@ -128,8 +144,7 @@ class Graph:
         Its edges are triples (u, v, k), k being the number of the edge; its vertices are 1, 2, ..
         or, in version 2, the names. Raises `BadGraph` or `TooLarge` with the line and the kind.
         """
-        found = re.search(r"(?m)^[ \t\r]*(?!c(?:[ \t\r]|$))[^ \t\r\n]+", text)
-        if found and found[0].strip() != "p" and "\n" not in text.strip():
+        if is_graph6(text):
             order, ends = graph6.decode(text)
             return cls._numbered(range(1, order + 1), ends)
         return cls._numbered(*read_graph(text))
@@ -152,16 +167,47 @@ class Graph:
             made.add_edge(u, v, *key)
         return made
 
+    def to_sage(self) -> Any:
+        """Returns a graph of Sage. If an edge has a key, it allows multiple edges, and the labels
+        of its edges are the keys. Needs Sage. Raises `ValueError` for a vertex None, which Sage
+        cannot have."""
+        is_multigraph = any(len(it) == 3 for it in self.edges)
+        edges = [(it[0], it[1], it[2] if len(it) == 3 else None) for it in self.edges]
+        return sage_graph(self.vertices, edges, is_multigraph)
+
     def __eq__(self, other: object) -> bool:
         if not isinstance(other, Graph):
             return NotImplemented
-        return (self.vertices, self.edges) == (other.vertices, other.edges)
+        return self._parts() == other._parts()
 
     def __hash__(self) -> int:
-        return hash((self.vertices, self.edges))
+        return hash(self._parts())
+
+    def _parts(self) -> Tuple[Any, Any]:
+        """What two graphs share if they are equal: the vertices and the edges, in any order."""
+        return frozenset(self._numbers), frozenset(self._edge_numbers)
+
+    def is_numbered_as(self, other: Graph) -> bool:
+        """Returns whether the graphs are equal and have the same numbers."""
+        return (self.vertices, self.edges) == (other.vertices, other.edges)
 
     def __repr__(self) -> str:
-        return f"<mcg.Graph of {self.order} vertices and {self.size} edges>"
+        sizes = counted(self.order, "vertex", "vertices"), counted(self.size, "edge")
+        return "<Graph of {}, {}>".format(*sizes)
+
+
+def is_graph6(text: str) -> bool:
+    """Returns whether a text is taken as one in graph6, and not as a graph file."""
+    found = re.search(r"(?m)^[ \t\r]*(?!c(?:[ \t\r]|$))[^ \t\r\n]+", text)
+    return bool(found and found[0].strip() != "p" and "\n" not in text.strip())
+
+
+def demand_size(order: int, size: int) -> None:
+    """Raises `TooLarge` if the programs do not take a graph of these sizes."""
+    if order > graph6.MOST_VERTICES or size > graph6.MOST_EDGES:
+        sizes = f"{counted(order, 'vertex', 'vertices')} and {counted(size, 'edge')}"
+        most = f"{graph6.MOST_VERTICES} vertices and {graph6.MOST_EDGES:,} edges"
+        raise TooLarge(f"the graph has {sizes}, and {most} are the most", kind=LIMIT)
 
 
 def new_networkx(is_multigraph: bool) -> Any:

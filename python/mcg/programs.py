@@ -4,10 +4,10 @@ from __future__ import annotations
 import os
 import re
 import shutil
+import signal
 import subprocess
-import tempfile
 from contextlib import contextmanager
-from typing import Dict, Iterator, List, Mapping, Optional, Tuple, Type
+from typing import Any, Dict, Iterator, List, Mapping, Optional, Sequence, Tuple, Type
 
 from .errors import (
     FAULTS,
@@ -15,17 +15,14 @@ from .errors import (
     BadGraph,
     BadInput,
     BadText,
-    Error,
     OutOfMemory,
     ProgramFailed,
     ProgramMissing,
     TooLarge,
 )
+from .memory_files import files_of, path_of
 
 DONE, NEGATIVE, BAD_INPUT, NO_MEMORY, NO_PROGRAM = 0, 1, 4, 6, 127
-
-# The most bytes of a line of a list; a longer one is bad, whatever it holds.
-MOST_LINE = 65_536
 
 
 def program(name: str) -> str:
@@ -46,6 +43,36 @@ def environment() -> Mapping[str, str]:
     return {key: value for key, value in os.environ.items() if key != "MCG_QUIET"}
 
 
+def started(name: str, words: Sequence[str], **how: Any) -> subprocess.Popen[bytes]:
+    """Starts a program. Raises `ProgramMissing` if it cannot be run, and `ProgramFailed` if its
+    exit status would be lost. What the caller's signal handlers raise, and an error of the system
+    such as too many open files, is passed on."""
+    path = program(name)
+    if signal.getsignal(signal.SIGCHLD) is signal.SIG_IGN:
+        advice = "call signal.signal(signal.SIGCHLD, signal.SIG_DFL) before"
+        raise ProgramFailed(
+            f"the signal SIGCHLD is ignored, so the exit status of {name} would be lost; {advice}"
+        )
+    try:
+        return subprocess.Popen([path, *words], env=environment(), **how)
+    except OSError as why:
+        if why.filename != path:
+            raise
+        raise ProgramMissing(f"{path}: {why.strerror}") from None
+
+
+def status_of(name: str, process: subprocess.Popen[bytes]) -> int:
+    """Waits for the end of a program, and returns its exit status. Raises `ProgramFailed` if this
+    was taken by somebody else, for which `subprocess` would return 0."""
+    if process.returncode is None:
+        try:
+            os.waitid(os.P_PID, process.pid, os.WEXITED | os.WNOWAIT)
+        except ChildProcessError:
+            what = "something in this process waits for all children, such as os.wait() in a handler of SIGCHLD"
+            raise ProgramFailed(f"the exit status of {name} was lost: {what}") from None
+    return process.wait()
+
+
 def ended(name: str, status: int, words: str) -> Exception:
     """Returns the exception for an exit status that is not explained by a report."""
     said = words.strip() or f"{name} ended with status {status}"
@@ -58,49 +85,37 @@ def ended(name: str, status: int, words: str) -> Exception:
     return ProgramFailed(said, status)
 
 
-def bad_line(words: str, line: Optional[int], text: Optional[bytes]) -> BadGraph:
-    """Returns the exception for a bad line of a list, with its number and text if they are known:
-    with what mcg6 said of it, and the kind that `mcg analyse6` has for the text."""
-    kind = None if text is None else _kind_of(text)
-    made = TooLarge if kind == LIMIT else BadGraph
-    return made(words.strip() or f"line {line} is not a graph in graph6", line, kind)
+def bad_lines(words: str) -> Dict[int, Tuple[Optional[int], str]]:
+    """Returns for each bad line of a list, by its number, the kind of its error and what mcg6 says
+    of it: the message begins `mcg6: line L kind K: `. Nothing else is read out of its words.
 
+    Until the programs write the kind, it is None, and the beginning is `mcg6: line L: ` or
+    `mcg6: line L `.
 
-def bad_lines(words: str) -> Dict[int, str]:
-    """Returns what mcg6 said of each bad line that it skipped, by the number of the line."""
-    said: Dict[int, str] = {}
+    >>> bad_lines("mcg6: line 2 kind 4: a byte is outside 63 to 126")
+    {2: (4, 'a byte is outside 63 to 126')}
+    """
+    said: Dict[int, Tuple[Optional[int], str]] = {}
     for message in words.splitlines():
-        found = re.match("mcg6: line ([0-9]+)(: | is:? )", message)
+        found = re.match("mcg6: line ([0-9]+)(?: kind ([0-9]+))?:? (.*)", message)
         if found:
-            line = int(found[1])
-            said[line] = f"{said[line]}\n{message}" if line in said else message
+            kind = None if found[2] is None else int(found[2])
+            said.setdefault(int(found[1]), (kind, found[3]))
     return said
 
 
-def _kind_of(text: bytes) -> Optional[int]:
-    """The kind of the first error of a text in graph6, by docs/FORMATS.md."""
-    if len(text) > MOST_LINE:
-        return LIMIT
-    try:
-        run("analyse6", ["graph"], {"graph": text.decode("latin-1")})
-    except BadInput as fault:
-        return fault.kind
-    except Error:
-        pass
-    return None
-
-
-def _bad_file(report: List[str], words: str) -> BadInput:
-    """The exception for a file outside its format."""
+def _bad_file(report: List[str], names: List[str]) -> BadInput:
+    """The exception for a file outside its format, which was made of what the caller gave."""
     found = re.fullmatch("file ([0-9]+) line ([0-9]+) kind ([0-9]+)", report[0] if report else "")
-    if not found:
-        return BadText(words.strip() or "a file is outside its format")
+    if not found or not 1 <= int(found[1]) <= len(names):
+        return BadText("what was given is outside its format")
     place, line, kind = map(int, found.groups())
-    said = words.strip() or f"file {place}, line {line}: {FAULTS.get(kind, 'an error')}"
     made: Type[BadInput] = BadText
     if place == 1:
         made = TooLarge if kind == LIMIT else BadGraph
-    return made(said, line, kind)
+    return made(
+        f"the {names[place - 1]} is outside its format: {FAULTS.get(kind, 'an error')}", line, kind
+    )
 
 
 @contextmanager
@@ -109,7 +124,7 @@ def understood(command: str) -> Iterator[None]:
     try:
         yield
     except (KeyError, IndexError, ValueError, StopIteration) as why:
-        raise BadText(f"not a report of {command} on this graph: {why!r}") from None
+        raise BadText(f"not a report of {command} on this graph: {why}") from None
 
 
 @contextmanager
@@ -119,7 +134,9 @@ def reported(command: str, status: Optional[int] = None) -> Iterator[None]:
     try:
         yield
     except (BadText, KeyError, IndexError, ValueError) as why:
-        raise ProgramFailed(f"the program did not write a report of {command} on this graph", status) from why
+        raise ProgramFailed(
+            f"the program did not write a report of {command} on this graph", status
+        ) from why
 
 
 def run(command: str, words: List[str], files: Dict[str, str]) -> Tuple[int, List[str]]:
@@ -129,26 +146,26 @@ def run(command: str, words: List[str], files: Dict[str, str]) -> Tuple[int, Lis
     `BadText` for a file outside its format, and `OutOfMemory`, `ProgramMissing` or
     `ProgramFailed`.
     """
-    path = program("mcg")
-    with tempfile.TemporaryDirectory(prefix="mcg-") as room:
-        for name, text in files.items():
-            with open(os.path.join(room, name), "w", encoding="latin-1", newline="\n") as file:
-                file.write(text)
-        try:
-            ran = subprocess.run(
-                [path, command, *words],
-                cwd=room,
-                env=environment(),
-                stdin=subprocess.DEVNULL,
-                stdout=subprocess.PIPE,
-                stderr=subprocess.PIPE,
-            )
-        except OSError as why:
-            raise ProgramMissing(f"{path}: {why}") from None
-    out = ran.stdout.decode("ascii", "replace").splitlines()
-    said = ran.stderr.decode("utf-8", "replace")
-    if ran.returncode == BAD_INPUT:
-        raise _bad_file(out, said)
-    if ran.returncode not in (DONE, NEGATIVE):
-        raise ended("mcg", ran.returncode, said)
-    return ran.returncode, out
+    pipes: Dict[str, Any] = {
+        "stdin": subprocess.DEVNULL,
+        "stdout": subprocess.PIPE,
+        "stderr": subprocess.PIPE,
+    }
+    with files_of(files) as open_files:
+        paths = {name: path_of(descriptor) for name, descriptor in open_files.items()}
+        pipes["pass_fds"] = list(open_files.values())
+        with started("mcg", [command, *(paths.get(it, it) for it in words)], **pipes) as process:
+            try:
+                out, said = process.communicate()
+            except BaseException:
+                process.kill()
+                raise
+    status, text = process.returncode, out.decode("ascii", "replace")
+    if status not in (DONE, NEGATIVE, BAD_INPUT):
+        raise ended("mcg", status, said.decode("utf-8", "replace"))
+    if text and not text.endswith("\n"):
+        raise ProgramFailed(f"the program did not write the whole report of {command}", status)
+    rows = text[:-1].split("\n") if text else []
+    if status == BAD_INPUT:
+        raise _bad_file(rows, list(files))
+    return status, rows

@@ -17,6 +17,7 @@ from typing import (
 
 from . import graph6
 from .errors import BadGraph
+from .labels import Label, brief, shown
 
 if TYPE_CHECKING:
     from typing import Protocol
@@ -46,7 +47,6 @@ if TYPE_CHECKING:
         def edge_iterator(self, **options: Any) -> Iterable[Tuple[Any, Any, Any]]: ...
 
 
-Label = Hashable
 Edge = Tuple[Any, ...]
 Source = Union[
     str,
@@ -67,7 +67,7 @@ def edge_numbers(edges: Sequence[Edge]) -> Dict[Tuple[FrozenSet[Label], Edge], i
     found: Dict[Tuple[FrozenSet[Label], Edge], int] = {}
     for k, edge in enumerate(edges, 1):
         if found.setdefault(edge_key(edge), k) != k:
-            raise BadGraph(f"the edge {edge!r} is given twice; parallel edges need keys, (u, v, key)")
+            raise BadGraph(f"the edge {shown(edge)} is given twice; parallel edges need keys, (u, v, key)")
     return found
 
 
@@ -75,6 +75,8 @@ def parts_of(source: Any) -> Tuple[Sequence[Label], Sequence[Edge]]:
     """The vertices and the edges of what is given as a graph."""
     if isinstance(source, (str, bytes)):
         text = source if isinstance(source, str) else source.decode("latin-1")
+        if text.lstrip().startswith(("p mcg", "c ")):
+            raise BadGraph("a text is taken as graph6, and this is not; Graph.from_text(text) reads a graph file")
         order, ends = graph6.decode(text)
         return range(order), [(a - 1, b - 1) for a, b in ends]
     if hasattr(source, "vertex_iterator") and hasattr(source, "edge_iterator"):
@@ -96,12 +98,15 @@ def _listed(source: Any, what: str) -> List[Any]:
     try:
         return list(source)
     except TypeError:
-        raise BadGraph(f"not a graph: {source!r} is not an iterable of {what}") from None
+        raise BadGraph(f"not a graph: {brief(shown(source))} is not an iterable of {what}") from None
 
 
 def _edge(it: Any) -> Edge:
+    if isinstance(it, (tuple, list)) and 3 <= len(it) <= 4 and isinstance(it[-1], dict):
+        advice = "give the graph itself, or its edges without data=True"
+        raise BadGraph(f"an edge is a pair (u, v) or a triple (u, v, key), without attributes: {advice}; this is {shown(it)}")
     if not isinstance(it, (tuple, list)) or not 2 <= len(it) <= 3:
-        raise BadGraph(f"an edge is a pair (u, v) or a triple (u, v, key), and not {it!r}")
+        raise BadGraph(f"an edge is a pair (u, v) or a triple (u, v, key), and not {shown(it)}")
     return tuple(it)
 
 

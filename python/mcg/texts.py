@@ -78,6 +78,14 @@ class Reader:
         return found
 
 
+def bounded(what: str, rows: List[str]) -> str:
+    """Returns the lines as the text of a file. Raises `BadText` if it is longer than a file may be."""
+    text = "\n".join(rows) + "\n"
+    if len(text) > MOST_BYTES:
+        raise BadText(f"{what} is too long: its text has {len(text):,} bytes, and {MOST_BYTES:,} is the most", kind=LIMIT)
+    return text
+
+
 def spaced(word: str, numbers: Iterable[int]) -> str:
     """Returns a line: the word, and one space before each number."""
     return " ".join([word, *map(str, numbers)])

@@ -1,5 +1,7 @@
 """Lists: kinds, leaves, elementary and select, streamed through one process."""
 import itertools
+import json
+import os
 import random
 import resource
 import sys
@@ -8,7 +10,8 @@ import threading
 import unittest
 from unittest import mock
 
-from support import Brute, brute_of, cycle, drawn, mcg
+from support import Brute, brute_of, cycle, drawn, mcg, networkx
+from test_sage import SageGraph
 
 
 class Kinds(unittest.TestCase):
@@ -31,6 +34,36 @@ class Kinds(unittest.TestCase):
                 self.assertEqual((found.bricks, found.braces), (kinds.count("brick"), kinds.count("brace")))
                 pairs = itertools.combinations(graph[0], 2)
                 self.assertEqual(found.bicritical, all(brute.is_matched(*pair) for pair in pairs))
+
+    def test_the_graphs_that_were_given(self):
+        """Each result has the place of its graph and the graph itself, also where bad ones are left out."""
+        draw, bad = random.Random(16), []
+        graphs = [it for pair in zip(drawn(16, 80), ["x!", "C~", [(1, 1)], "E~rG", ""] * 16) for it in pair]
+        draw.shuffle(graphs)
+        found = list(mcg.kinds(graphs, skipped=bad))
+        for it in found:
+            self.assertIs(it.given, graphs[it.index])
+            self.assertEqual(it.graph6, mcg.Graph(it.given).graph6())
+        self.assertEqual(sorted([it.index for it in found] + [fault.line - 1 for fault in bad]), list(range(len(graphs))))
+        self.assertEqual(len(bad), 48)
+        plain = [it.to_dict() for it in found]
+        self.assertEqual([mcg.Kind.from_dict(json.loads(json.dumps(it))) for it in plain], found)
+        self.assertEqual({type(value) for it in plain for value in it.values()}, {int, str, bool, type(None)})
+
+    def test_a_single_graph(self):
+        """One graph where a list is wanted is a TypeError, or a graph that is bad with a hint."""
+        ones = ["C~", b"C~", mcg.Graph("C~"), SageGraph("ab", [("a", "b", None)])]
+        for one in ones + ([] if networkx is None else [networkx.complete_graph(4)]):
+            for asked in (mcg.kinds, mcg.leaves, mcg.elementary, lambda it: mcg.select(it, "brick")):
+                with self.assertRaises(TypeError) as raised:
+                    asked(one)
+                self.assertIn("put it in a list", str(raised.exception))
+        for edges in ([(1, 2), (2, 3)], [("a", "b"), ("b", "c")]):
+            with self.assertRaises(mcg.BadGraph) as raised:
+                list(mcg.kinds(edges))
+            self.assertIn("put it in a list: [edges]", str(raised.exception))
+        with self.assertRaises(TypeError):
+            mcg.kinds(["C~"], skipped=True)
 
     def test_all_forms_of_a_graph(self):
         forms = ["C~", b"C~\n", ">>graph6<<C~\r\n", list(itertools.combinations("abcd", 2)), mcg.Graph("C~")]
@@ -88,110 +121,6 @@ class Kinds(unittest.TestCase):
         self.assertEqual({(a.kind, b.kind) for a, b in pairs}, {("brick", "brace")})
 
 
-class SkippedLines(unittest.TestCase):
-    """Bad graphs are left out and collected, whether mcg6 finds the error or the package does."""
-
-    GRAPHS = ["x!", "C~", [(1, 1)], "", "A_", "\ufeffC~", "?" * 70_000, "Ch", cycle(130), "bad"]
-    BAD = [1, 3, 4, 6, 7, 9, 10]
-
-    def test_kinds(self):
-        skipped = []
-        found = [it.kind for it in mcg.kinds(self.GRAPHS, skipped)]
-        self.assertEqual(found, ["brick", "brace", None])
-        self.assertEqual([it.line for it in skipped], self.BAD)
-        self.assertIsInstance(skipped[4], mcg.TooLarge)
-        for fault in skipped:
-            self.assertIsInstance(fault, mcg.BadGraph)
-            self.assertIn(f"line {fault.line}", str(fault))
-
-    def test_leaves_keep_their_numbers(self):
-        skipped = []
-        found = [(it.index, it.kind) for it in mcg.leaves(self.GRAPHS, "last", skipped)]
-        self.assertEqual(found, [(1, "brick"), (4, "brace")])
-        self.assertEqual([it.line for it in skipped], self.BAD)
-
-    def test_select_over_several_processes(self):
-        skipped = []
-        with mock.patch("mcg.lists.SESSION", 3):
-            found = list(mcg.select(self.GRAPHS, "covered", skipped))
-        self.assertEqual(found, ["C~", "A_"])
-        self.assertEqual([it.line for it in skipped], self.BAD)
-
-    def test_no_bad_graph(self):
-        skipped = []
-        self.assertEqual([it.kind for it in mcg.kinds(["C~", "A_"], skipped)], ["brick", "brace"])
-        self.assertEqual(skipped, [])
-
-    def test_an_iterable_that_fails(self):
-        def graphs():
-            yield from ["C~", "x!"]
-            raise KeyError("mine")
-
-        with self.assertRaises(KeyError):
-            list(mcg.kinds(graphs(), []))
-
-
-class BadLines(unittest.TestCase):
-    def asked(self, graphs):
-        """The results before the exception, and the exception."""
-        found = []
-        with self.assertRaises(mcg.BadGraph) as raised:
-            for it in mcg.kinds(graphs):
-                found.append(it)
-        return found, raised.exception
-
-    def test_a_bad_line_in_the_middle(self):
-        found, fault = self.asked(["C~", "A_", "x!", "C~"])
-        self.assertEqual([it.kind for it in found], ["brick", "brace"])
-        self.assertEqual((fault.line, fault.kind), (3, 4))
-        self.assertIn("line 3", str(fault))
-
-    def test_the_kinds_of_bad_lines(self):
-        """Of each bad text the kind is the one that `mcg analyse6` has, by which FORMATS counts."""
-        texts = ["", "x!", ":An", "\ufeffC~", "~??", "~~????", "~??C" + "?" * 9, "~?A_", "C", "C~~", "CF~", "B~", "~?C@" + "~" * 3000, "é"]
-        with tempfile.TemporaryDirectory() as folder:
-            for text in texts:
-                with self.subTest(text=text[:20]):
-                    with open(f"{folder}/text", "w", encoding="utf-8") as file:
-                        file.write(text)
-                    status, report = self.analyse6(f"{folder}/text")
-                    self.assertEqual(status, 4)
-                    found, fault = self.asked(["C~", text, "C~"])
-                    self.assertEqual((len(found), fault.line), (1, 2))
-                    self.assertEqual(report.split()[-1], str(fault.kind))
-                    self.assertEqual(isinstance(fault, mcg.TooLarge), fault.kind == 6)
-
-    def analyse6(self, path):
-        from mcg import programs
-
-        ran = programs.subprocess.run([programs.program("mcg"), "analyse6", path], capture_output=True)
-        return ran.returncode, ran.stdout.decode().strip()
-
-    def test_a_graph_that_is_too_large(self):
-        found, fault = self.asked(["C~", cycle(130), "C~"])
-        self.assertEqual((len(found), fault.line, type(fault)), (1, 2, mcg.TooLarge))
-        self.assertEqual(self.asked(["C~", (range(300_000), [])])[1].kind, 6)
-        dense = list(itertools.combinations(range(128), 2))
-        self.assertEqual(self.asked([dense])[1].kind, 6)
-
-    def test_what_is_no_graph(self):
-        for bad in ([(1, 1)], 7, "C~\nC~", [(1, 2, 3, 4)]):
-            found, fault = self.asked(["C~", "A_", bad, "C~"])
-            self.assertEqual((len(found), fault.line), (2, 3))
-
-    def test_an_iterable_that_fails(self):
-        def graphs():
-            yield "C~"
-            yield "A_"
-            raise KeyError("here")
-
-        found = []
-        with self.assertRaises(KeyError):
-            for it in mcg.kinds(graphs()):
-                found.append(it.kind)
-        self.assertEqual(found, ["brick", "brace"])
-
-
 class Leaves(unittest.TestCase):
     def test_random_graphs(self):
         graphs = drawn(12, 200)
@@ -226,11 +155,12 @@ class Elementary(unittest.TestCase):
                 allowed = [edge for edge in brute.edges if brute.is_allowed(*edge)]
                 parts = Brute(labels, allowed).components() if brute.is_matched() else []
                 here = found.get(index, [])
-                self.assertEqual([it.vertices for it in here], sorted(it.vertices for it in here))
-                named = {frozenset(labels[k - 1] for k in it.vertices): it for it in here}
+                places = [[labels.index(v) for v in it.vertices] for it in here]
+                self.assertEqual(places, sorted(map(sorted, places)))
+                named = {frozenset(it.vertices): it for it in here}
                 self.assertEqual(set(named), set(map(frozenset, parts)))
                 for part, it in named.items():
-                    edges = {frozenset(labels[it.vertices[k] - 1] for k in edge) for edge in mcg.Graph(it.graph6).edges}
+                    edges = {frozenset(it.vertices[k] for k in edge) for edge in mcg.Graph(it.graph6).edges}
                     self.assertEqual(edges, {edge for edge in allowed if edge <= part})
 
     def test_no_perfect_matching_and_a_bad_line(self):
@@ -238,7 +168,14 @@ class Elementary(unittest.TestCase):
         with self.assertRaises(mcg.BadGraph) as raised:
             for it in mcg.elementary(["Bw", "Ch", "x!"]):
                 found.append((it.index, it.graph6, it.vertices))
-        self.assertEqual((found, raised.exception.line), ([(1, "A_", (1, 2)), (1, "A_", (3, 4))], 3))
+        self.assertEqual((found, raised.exception.line), ([(1, "A_", (0, 1)), (1, "A_", (2, 3))], 3))
+
+    def test_labels(self):
+        """A labelled graph has its labels, and a text the numbers from 0 that `Graph` has for it."""
+        path = [("ä", None), (None, ("x", 1)), (("x", 1), "v")]
+        found = [it.vertices for it in mcg.elementary([path, "Ch", mcg.Graph(path), b">>graph6<<Ch\n"])]
+        labelled, numbered = [("ä", None), (("x", 1), "v")], [(0, 1), (2, 3)]
+        self.assertEqual(found, [*labelled, *numbered, *labelled, *numbered])
 
 
 class Select(unittest.TestCase):
@@ -277,9 +214,36 @@ class Select(unittest.TestCase):
         with self.assertRaises(mcg.BadGraph) as raised:
             list(mcg.select(["Bw"] * 10_000 + ["x!"], "brick"))
         self.assertEqual(raised.exception.line, 10_001)
-        self.assertIn("line 10001", str(raised.exception))
+        self.assertIn("graph 10001 of the list", str(raised.exception))
 
-    def test_a_word_that_is_no_property(self):
-        with self.assertRaises(mcg.ProgramFailed) as raised:
-            list(mcg.select(["C~"], "brik"))
-        self.assertEqual(raised.exception.status, 2)
+    def test_words_that_are_none(self):
+        """Words that mcg6 takes for something else are refused before a program is started, also where a file has that name."""
+        with mock.patch.dict("os.environ", {"MCG6": "/nowhere/mcg6", "MCG": "/nowhere/mcg"}):
+            for order in ("frist", "skip", "", None, ["first"], b"first"):
+                with self.subTest(order=order), self.assertRaises(ValueError):
+                    mcg.leaves(["C~"], order)
+            for what in ("brik", "skip", "bricks", "bricks=", "bricks=-1", "bricks=1 ", "bricks=1\n", ("bricks",), ("brick", 1), None, 3):
+                with self.subTest(what=what), self.assertRaises(ValueError):
+                    mcg.select(["C~"], what)
+            for order in ("frist", "skip", b"first"):
+                with self.subTest(order=order), self.assertRaises(ValueError):
+                    mcg.decompose("C~", order)
+            for picks in ([-1], ["1\npick 2"], [True], [1.0], [10**9], [0] * 128):
+                with self.subTest(picks=picks), self.assertRaises(mcg.BadText):
+                    mcg.decompose("C~", picks)
+
+    def test_an_order_that_is_a_file(self):
+        with tempfile.TemporaryDirectory() as folder:
+            with open(f"{folder}/frist", "w") as file:
+                file.write("A_\n")
+            before = os.getcwd()
+            os.chdir(folder)
+            try:
+                with self.assertRaises(ValueError) as raised:
+                    list(mcg.leaves(["C~"], "frist"))
+            finally:
+                os.chdir(before)
+        self.assertIn("first or last or balanced", str(raised.exception))
+
+    def test_pairs(self):
+        self.assertEqual(list(mcg.select(["C~", "E~rG"], ("bricks", 2))), ["E~rG"])

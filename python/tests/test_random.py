@@ -139,7 +139,7 @@ class Check(unittest.TestCase):
             if not verdict:
                 self.assertEqual((verdict.refusal.node, verdict.refusal.why), (1, 5))
                 self.assertTrue(brute.is_tight(verdict.refusal.cut))
-                self.assertIn("nontrivial tight cut", str(verdict.refusal))
+                self.assertIn("is nontrivial and tight there (cut further", str(verdict.refusal))
 
     def test_one_cut(self):
         """A tree of one cut with a random shore, whose first node is refused for the right reason."""

@@ -1,7 +1,9 @@
-"""Graphs of Sage, by a stand-in: what is read of them, and what the programs say of them."""
+"""Graphs of Sage, by a stand-in and by Sage itself: what is read of them, and what the programs say of them."""
+import shutil
+import subprocess
 import unittest
 
-from support import brute_of, covered, drawn, mcg
+from support import ROOT, brute_of, covered, drawn, mcg
 
 
 class SageGraph:
@@ -73,3 +75,22 @@ class Sage(unittest.TestCase):
         found = mcg.decompose(SageGraph("abcd", edges, multiple=True))
         self.assertEqual([leaf.kind for leaf in found.leaves], ["brace"])
         self.assertEqual(found.leaves[0].edges[frozenset([frozenset("a"), frozenset("b")])], [("a", "b", 0), ("b", "a", 1)])
+
+
+def python_with_sage():
+    """How Python is called so that it can import Sage: `sage -python`, or Debian's Python. None if there is neither."""
+    words = [["sage", "-python"]] if shutil.which("sage") else []
+    for asked in [*words, ["/usr/bin/python3"]]:
+        if shutil.which(asked[0]) and not subprocess.run([*asked, "-c", "import sage.all"], capture_output=True).returncode:
+            return asked
+    return None
+
+
+class RealSage(unittest.TestCase):
+    def test_with_sage(self):
+        python = python_with_sage()
+        if python is None:
+            self.skipTest("Sage is not there")
+        ran = subprocess.run([*python, f"{ROOT}/python/tests/with_sage.py"], capture_output=True, text=True, timeout=900)
+        self.assertEqual(ran.returncode, 0, ran.stderr)
+        self.assertRegex(ran.stdout.splitlines()[-1], "^sage: [0-9]+ graphs there and back, [0-9]+ structures, [0-9]+ decompositions, [0-9]+ more$")

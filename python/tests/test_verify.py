@@ -163,7 +163,7 @@ class Contradicts(unittest.TestCase):
             "order": 7, "size": 6, "components": 2, "bipartite": False, "matching_number": 2, "deficiency": 2,
             "D": frozenset([1]), "A": frozenset([1]), "C": frozenset([1]), "allowed": good.allowed[1:], "covered": False,
             "reason": "edge", "witness": graph[0], "classes": good.classes[:1], "bicritical": True, "equivalent_pair": (1, 2),
-            "cut_pair": (1, 2), "kind": "composite", "shore": frozenset([0, 1, 2]),
+            "cut_pair": (1, 2), "kind": "composite", "shore": frozenset([0, 1, 2]), "graph": mcg.Graph(graph[1:]),
         }
         self.assertEqual(set(other), set(good.__dataclass_fields__))
         for name, value in other.items():

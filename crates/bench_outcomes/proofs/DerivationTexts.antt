@@ -2,13 +2,13 @@
 -- few nodes; and the report with its leaves after it stands for the tree.
 use Rattle.std.proofs.Common.{◌≡◌, ℕ, List, ◌∷◌, map, ap, subst, true, refl, ◌∙◌, arith}
 use Rattle.graph_core.proofs.Common.{Graph, singles, IsWithinLimits}
-use Rattle.tree_check.proofs.from_tree_core.Common.{IsDerivation, kept_at, merged_at, StandsAt, leaves, Shape, leaf, cut, AreLeafKinds, partitions-leaves, leaf_count-cuts, node_count-cuts, length-leaves_at, few-nodes}
+use Rattle.tree_core.proofs.Common.{IsDerivation, kept_at, merged_at, StandsAt, leaves, Shape, leaf, cut, AreLeafKinds, partitions-leaves, leaf_count-cuts, node_count-cuts, length-leaves_at, few-nodes}
 use Rattle.graph_core.specs.from_line_text.Common.{Stands, is_closed, unwords}
 use Rattle.graph_core.proofs.from_line_text.ReadBack.{is_closed-unlines}
 use Rattle.bench_tasks.specs.from_tree_text.Common.{tree_format, HasVertices, header_words, node_words, tree_text}
 use Rattle.bench_tasks.specs.from_graph_text.Common.{NamedGraph}
 use Rattle.report_text.specs.Common.{HasFewLeaves, IsCommented, derivation_text}
-use Rattle.tree_check.specs.from_tree_core.declared.tallies.LeafKind.{LeafKind}
+use Rattle.tree_core.specs.declared.tallies.LeafKind.{LeafKind}
 use Rattle.report_text.proofs.Comments.{commented-more, stands-commented}
 use Rattle.report_text.proofs.CommentLines.{derivation-commented}
 use Rattle.bench_outcomes.specs.Common.{TellsDerivation, with_given_names}

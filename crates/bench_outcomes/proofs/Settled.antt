@@ -3,7 +3,7 @@
 -- lead through no derivations to a last tree.
 use Rattle.tree_check.proofs.from_counting.Common.{◌≡◌, ◌∙◌, ℕ, List, [], ◌∷◌, ◌⊎◌, inl, inr, sym, subst, none-some, same_Some, singleton}
 use Rattle.graph_core.proofs.Common.{Graph, IsGraph, IsMultigraph, IsCovered}
-use Rattle.tree_check.proofs.from_tree_core.Common.{IsDerivation, PlainMove, TurnsThrough, Shape}
+use Rattle.tree_core.proofs.Common.{IsDerivation, PlainMove, TurnsThrough, Shape}
 use Rattle.tree_check.specs.Common.{Why, IsRefused, IsStuckAt, IsRefusedMoveAt}
 use Rattle.tree_check.proofs.FirstRefusals.{refused-not_derived}
 use Rattle.bench_tasks.proofs.from_ear_core.Refusing.{refusal-none}

@@ -3,13 +3,13 @@
 -- Stated by: bench_reports. Used by: bench_outcomes, bench_top, theorems.
 use Rattle.std.specs.Prelude.{◌≡◌, ◌⊎◌, ℕ, List, Option, Some, None}
 use Rattle.graph_core.specs.Common.{Graph}
-use Rattle.tree_check.specs.from_tree_core.Common.{IsDerivation, leaves, Shape, IsTally}
+use Rattle.tree_core.specs.Common.{IsDerivation, leaves, Shape, IsTally}
 use Rattle.tree_check.specs.Common.{Why, not_blocks, even, trivial, not_tight, not_leaf, why_number, IsRefused}
 use Rattle.report_text.specs.Common.{judgement_text}
 use Rattle.report_text.specs.declared.judgements.Shown.{Shown}
 use Rattle.report_text.specs.declared.judgements.Shown.TheVariants.{Nothing, Matching, Cut}
 use Rattle.report_text.specs.declared.judgements.TreeLine.TheVariants as line
-use Rattle.tree_check.specs.from_tree_core.declared.tallies.Tally.{Tally}
+use Rattle.tree_core.specs.declared.tallies.Tally.{Tally}
 use Rattle.bench_outcomes.specs.Uncovered.{Uncovered}
 use Rattle.bench_outcomes.specs.declared.report.Report.{Report}
 use Rattle.bench_outcomes.specs.declared.status.Status.{Status}

@@ -6,7 +6,7 @@
 use Rattle.std.specs.Prelude.{◌≡◌, ◌≤◌, ◌*◌, ◌⊎◌, ℕ, suc, List, [], ◌∷◌, length, Option, Some, None}
 use Rattle.graph_core.specs.Common.{Graph, names_of}
 use Rattle.graph_core.specs.from_line_text.Common.{Stands}
-use Rattle.tree_check.specs.from_tree_core.Common.{IsDerivation, PlainLeafMap, script_maps, leaves, PlainMove, TurnsThrough, Shape, cut_count, leaf_count}
+use Rattle.tree_core.specs.Common.{IsDerivation, PlainLeafMap, script_maps, leaves, PlainMove, TurnsThrough, Shape, cut_count, leaf_count}
 use Rattle.bench_tasks.specs.from_move_text.Common.{move_format, moves_text}
 use Rattle.tree_check.specs.from_move_laws.Common.{IsPairing}
 use Rattle.report_text.specs.Common.{pairing_text, script_report_text}

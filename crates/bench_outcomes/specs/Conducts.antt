@@ -4,7 +4,7 @@
 -- Stated by no contract. Used by: bench_outcomes, bench_top.
 use Rattle.std.specs.Prelude.{ℕ, List}
 use Rattle.graph_core.specs.Common.{IsCovered, Graph}
-use Rattle.tree_check.specs.from_tree_core.Common.{IsDerivation, PlainMove, TurnsThrough, Shape}
+use Rattle.tree_core.specs.Common.{IsDerivation, PlainMove, TurnsThrough, Shape}
 use Rattle.bench_tasks.specs.from_ear_core.Common.{IsEarList}
 use Rattle.bench_outcomes.specs.Shown.{MayBeBerge, MayShowOfTree, MayShowOfMoves, MayShowOfTwo}
 use Rattle.bench_tasks.specs.Common.{Task}

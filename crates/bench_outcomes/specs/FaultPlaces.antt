@@ -4,9 +4,9 @@
 use Rattle.std.specs.Prelude.{◌≡◌, ◌≤◌, ◌<◌, ℕ, zero, suc, ◌+◌, true, List, [], ◌∷◌, ◌++◌, length, slice_get, option_and_then, if◌then◌else◌, Option, Some, None}
 use Rattle.tree_check.specs.from_counting.Common.{Set, mem}
 use Rattle.graph_core.specs.Common.{Graph}
-use Rattle.tree_check.specs.from_tree_core.Common.{PlainMove, Shape, leaf, cut, move_result, node_count}
-use Rattle.tree_check.specs.from_tree_core.declared.path.Side.{Side}
-use Rattle.tree_check.specs.from_tree_core.declared.path.Side.TheVariants.{Kept, Merged}
+use Rattle.tree_core.specs.Common.{PlainMove, Shape, leaf, cut, move_result, node_count}
+use Rattle.tree_core.specs.declared.path.Side.{Side}
+use Rattle.tree_core.specs.declared.path.Side.TheVariants.{Kept, Merged}
 use Rattle.bench_tasks.specs.from_ear_core.Common.{PlainEars, fault_place}
 use Rattle.refusals.specs.declared.places.NodePlace.{NodePlace}
 use Rattle.refusals.specs.declared.refusal.Refusal.{Refusal}

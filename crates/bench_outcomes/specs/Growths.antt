@@ -7,10 +7,10 @@ use Rattle.bench_tasks.specs.from_graph_text.Common.{graph_text}
 use Rattle.bench_tasks.specs.from_grow_gen.Common.{grown}
 use Rattle.tree_check.specs.from_tight_cuts.Common.{Candidate}
 use Rattle.bench_tasks.specs.from_decomposer.Common.{IsPicked, NamedPicks}
-use Rattle.tree_check.specs.from_tree_core.Common.{IsDerivation, PlainLeafMap, leaves, Shape, IsTally}
+use Rattle.tree_core.specs.Common.{IsDerivation, PlainLeafMap, leaves, Shape, IsTally}
 use Rattle.tree_check.specs.from_move_laws.Common.{IsPairing}
 use Rattle.report_text.specs.Common.{grown_text}
-use Rattle.tree_check.specs.from_tree_core.declared.tallies.Tally.{Tally}
+use Rattle.tree_core.specs.declared.tallies.Tally.{Tally}
 use Rattle.bench_tasks.specs.from_decomposer.declared.orders.NamedOrder.TheVariants.{First, Last}
 use Rattle.bench_outcomes.specs.declared.status.Status.{Status}
 use Rattle.bench_outcomes.specs.declared.status.Status.TheVariants.{Done}

@@ -8,12 +8,12 @@ use Rattle.graph_core.specs.from_line_text.Common.{Stands}
 use Rattle.bench_tasks.specs.from_graph_text.Common.{NamedGraph, either_version, plain_names, named_text}
 use Rattle.bench_tasks.specs.from_graph6_text.Common.{graph6_of}
 use Rattle.tree_check.specs.from_tight_cuts.Common.{Candidate}
-use Rattle.tree_check.specs.from_tree_core.Common.{IsDerivation, leaves, Shape, AreLeafKinds}
+use Rattle.tree_core.specs.Common.{IsDerivation, leaves, Shape, AreLeafKinds}
 use Rattle.bench_tasks.specs.from_tree_text.Common.{tree_format, tree_text}
 use Rattle.bench_tasks.specs.from_decomposer.Common.{NamedPicks, ScriptPicks, IsPicked}
 use Rattle.report_text.specs.Common.{analysis_text, derivation_text, bad_input_text, with_names_text, graph6_line}
 use Rattle.report_text.specs.declared.analyses.AnalysisLines.{AnalysisLines}
-use Rattle.tree_check.specs.from_tree_core.declared.tallies.LeafKind.{LeafKind}
+use Rattle.tree_core.specs.declared.tallies.LeafKind.{LeafKind}
 use Rattle.bench_tasks.specs.Common.{Command, command_of, Task, Loaded, All, Bad, Absent, loaded}
 use Rattle.bench_outcomes.specs.Uncovered.{Uncovered}
 use Rattle.bench_outcomes.specs.Checks.{CheckGives}

@@ -4,7 +4,7 @@
 -- Stated by: bench_reports. Used by: bench_outcomes, bench_top, theorems.
 use Rattle.std.specs.Prelude.{◌≡◌, ◌⊎◌, ℕ, List, length}
 use Rattle.graph_core.specs.Common.{Graph}
-use Rattle.tree_check.specs.from_tree_core.Common.{IsDerivation, PlainMove, TurnsThrough, Shape}
+use Rattle.tree_core.specs.Common.{IsDerivation, PlainMove, TurnsThrough, Shape}
 use Rattle.tree_check.specs.Common.{Why, why_number, IsStuckAt, IsRefusedMoveAt}
 use Rattle.bench_tasks.specs.from_tree_text.Common.{tree_text}
 use Rattle.report_text.specs.Common.{replayed_text, stuck_text, refused_move_text}

@@ -3,7 +3,7 @@
 -- Stated by no contract. Used by: bench_outcomes, bench_top.
 use Rattle.std.specs.Prelude.{◌⊎◌, ℕ, List}
 use Rattle.graph_core.specs.Common.{IsReason, Unmatched, Graph}
-use Rattle.tree_check.specs.from_tree_core.Common.{IsDerivation, PlainMove, Shape}
+use Rattle.tree_core.specs.Common.{IsDerivation, PlainMove, Shape}
 use Rattle.tree_check.specs.Common.{IsRefused, not_tight, IsRefusedMoveAt}
 
 -- a Berge set that may be the reason why the graph is not covered

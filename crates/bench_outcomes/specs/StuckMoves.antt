@@ -5,9 +5,9 @@ use Rattle.tree_check.specs.from_counting.Common.{is_apart, is_subset}
 use Rattle.graph_core.specs.Common.{complement_of}
 use Rattle.refusals.specs.declared.faults.StuckFault.{StuckFault}
 use Rattle.refusals.specs.declared.faults.StuckFault.TheVariants.{NoCut, Crossing, NotParts}
-use Rattle.tree_check.specs.from_tree_core.Common.{PlainMove, Shape, cut, is_proper, leaf, move_result, rotate_at, switch_at}
-use Rattle.tree_check.specs.from_tree_core.declared.path.Side.{Side}
-use Rattle.tree_check.specs.from_tree_core.declared.path.Side.TheVariants.{Kept, Merged}
+use Rattle.tree_core.specs.Common.{PlainMove, Shape, cut, is_proper, leaf, move_result, rotate_at, switch_at}
+use Rattle.tree_core.specs.declared.path.Side.{Side}
+use Rattle.tree_core.specs.declared.path.Side.TheVariants.{Kept, Merged}
 
 -- the path leads from the root to a cut
 abbrev pub leads_to_cut : List Side → Shape → Bool

@@ -2,7 +2,7 @@
 -- one of the tree and the moves.
 use Rattle.std.proofs.Common.{◌≤◌, ◌<◌, inl, inr, ℕ, List, [], ◌∷◌, Option, Some, None, arith}
 use Rattle.graph_core.proofs.Common.{Graph, singles}
-use Rattle.move_text.proofs.from_tree_core.Common.{PlainMove, Shape, leaf, cut, kept_at, merged_at, node_count}
+use Rattle.tree_core.proofs.Common.{PlainMove, Shape, leaf, cut, kept_at, merged_at, node_count}
 use Rattle.bench_outcomes.specs.from_tree_check.Common.{IsRefused, IsRefusedAt, Why}
 use Rattle.refusals.specs.declared.refusal.Refusal.{Refusal}
 use Rattle.refusals.specs.declared.refusal.Refusal.TheVariants as refusal

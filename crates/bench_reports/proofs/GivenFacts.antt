@@ -3,7 +3,7 @@
 use Rattle.std.proofs.Common.{ℕ}
 use Rattle.std.proofs.Props.{props}
 use Rattle.std.specs.List.{AllByRecursion-prop}
-use Rattle.move_text.proofs.from_tree_core.Common.{Shape, leaf, cut, Fits}
+use Rattle.tree_core.proofs.Common.{Shape, leaf, cut, Fits}
 use Rattle.ear_text.specs.from_ear_core.Common.{PlainEars, PlainStep, one, two, FitsEars, FitsStep}
 
 pub tree-fits_prop : (n : ℕ) (t : Shape) → IsProp (Fits n t)

@@ -3,8 +3,8 @@
 use Rattle.std.proofs.Common.{◌≡◌, ◌≤◌, ◌<◌, ◌∙◌, inl, inr, ℕ, zero, suc, ◌+◌, ◌-◌, List, [], ◌∷◌, length, drop, slice_get, Option, Some, None, option_and_then, refl, sym, ap, subst₂, arith}
 use Rattle.std.proofs.lemmas.Option.{none-some, same_Some}
 use Rattle.graph_core.proofs.Common.{Graph}
-use Rattle.move_text.proofs.from_tree_core.Common.{PlainMove, Shape, move_of, move_result, moves_of}
-use Rattle.move_text.specs.from_tree_core.declared.moves.Move.{Move}
+use Rattle.tree_core.proofs.Common.{PlainMove, Shape, move_of, move_result, moves_of}
+use Rattle.tree_core.specs.declared.moves.Move.{Move}
 use Rattle.bench_outcomes.specs.from_tree_check.Common.{IsRefused, IsRefusedMoveAt, IsStuckAt, Why}
 use Rattle.refusals.specs.declared.faults.StuckFault.{StuckFault}
 use Rattle.bench_outcomes.specs.Common.{HasNoResult, IsNextMove, IsStuckBy, made_by}

@@ -5,9 +5,9 @@ use Rattle.move_text.proofs.from_counting.Common.{◌≡◌, ◌∙◌, ◌≢�
 use Rattle.graph_core.proofs.Common.{Graph, IsPartition, inside_or_apart, merged, merged_merges, singles, singles-partition}
 use Rattle.refusals.specs.declared.faults.StuckFault.{StuckFault}
 use Rattle.refusals.specs.declared.faults.StuckFault.TheVariants.{Crossing}
-use Rattle.move_text.proofs.from_tree_core.Common.{IsCutAt, IsDerivation, IsDerivationAt, PlainMove, Shape, cut, cut-below, cut-nonempty, kept_at, leaf, merged_at, move_result, partition-kept, partition-merged, rotate_at, switch_at}
-use Rattle.move_text.specs.from_tree_core.declared.path.Side.{Side}
-use Rattle.move_text.specs.from_tree_core.declared.path.Side.TheVariants.{Kept, Merged}
+use Rattle.tree_core.proofs.Common.{IsCutAt, IsDerivation, IsDerivationAt, PlainMove, Shape, cut, cut-below, cut-nonempty, kept_at, leaf, merged_at, move_result, partition-kept, partition-merged, rotate_at, switch_at}
+use Rattle.tree_core.specs.declared.path.Side.{Side}
+use Rattle.tree_core.specs.declared.path.Side.TheVariants.{Kept, Merged}
 use Rattle.bench_outcomes.specs.Common.{CrossesParent, IsStuckBy, stuck_fault}
 use Rattle.bench_reports.proofs.StuckMoves.{stuck_by}
 

@@ -1,9 +1,9 @@
 -- The search for a node of a tree by its number: the steps of a path as they grow, and what is
 -- found below a cut is found in the tree of the cut.
 use Rattle.move_text.proofs.from_counting.Common.{◌≡◌, ◌∙◌, ◌≤◌, ◌<◌, ℕ, zero, suc, ◌+◌, ◌||◌, ◌==◌, Bool, true, List, [], ◌∷◌, ◌++◌, Option, refl, sym, ap, subst, append_assoc, if◌then◌else◌, arith, Set, append-nil, nat_tests}
-use Rattle.move_text.proofs.from_tree_core.Common.{Shape, cut, node_count}
-use Rattle.move_text.specs.from_tree_core.declared.path.Side.{Side}
-use Rattle.move_text.specs.from_tree_core.declared.path.Side.TheVariants.{Kept, Merged}
+use Rattle.tree_core.proofs.Common.{Shape, cut, node_count}
+use Rattle.tree_core.specs.declared.path.Side.{Side}
+use Rattle.tree_core.specs.declared.path.Side.TheVariants.{Kept, Merged}
 use Rattle.refusals.specs.declared.places.NodePlace.{NodePlace}
 use Rattle.bench_outcomes.specs.Common.{IsPlaceAt, steps_to}
 use Rattle.bench_reports.specs.NodeSearch.{IsFoundPlace}

@@ -1,7 +1,7 @@
 -- The lines of the leaves from a place on: that of the leaf there, and then those from the next
 -- place on.
 use Rattle.move_text.proofs.from_counting.Common.{◌≡◌, ℕ, zero, suc, ◌+◌, List, [], ◌∷◌, ◌++◌, Some, append_assoc, drop, length, slice_get, refl, ap, arith, none-some, same_Some}
-use Rattle.move_text.proofs.from_tree_core.Common.{PlainLeafMap}
+use Rattle.tree_core.proofs.Common.{PlainLeafMap}
 use Rattle.bench_outcomes.specs.from_report_text.declared.comparisons.MapLine.{MapLine}
 use Rattle.bench_outcomes.specs.Common.{line_of, map_lines_of}
 

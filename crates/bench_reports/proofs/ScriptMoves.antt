@@ -4,9 +4,9 @@
 -- within the limits has few cuts.
 use Rattle.move_text.proofs.from_counting.Common.{◌≡◌, ℕ, suc, ◌*◌, ◌<◌, ◌≤◌, Bool, true, false, ◌&&◌, List, [], ◌∷◌, length, Option, Some, None, option_map, if◌then◌else◌, refl, sym, arith, mul-le, none-some, and_parts, true≢false, AllByRecursion}
 use Rattle.graph_core.proofs.Common.{Graph, IsGraph, complement_of}
-use Rattle.move_text.proofs.from_tree_core.Common.{IsDerivation, PlainMove, rotate_at, switch_at, TurnsThrough, is_proper, move_result, parent_path, result_at, switch_result_at, Shape, leaf, cut, Fits, cut_count, node_count, fits-derivation, node_count-cuts, proper_outside-within, proper_part-within, few-nodes}
-use Rattle.move_text.specs.from_tree_core.declared.path.Side.{Side}
-use Rattle.move_text.specs.from_tree_core.declared.path.Side.TheVariants.{Kept, Merged}
+use Rattle.tree_core.proofs.Common.{IsDerivation, PlainMove, rotate_at, switch_at, TurnsThrough, is_proper, move_result, parent_path, result_at, switch_result_at, Shape, leaf, cut, Fits, cut_count, node_count, fits-derivation, node_count-cuts, proper_outside-within, proper_part-within, few-nodes}
+use Rattle.tree_core.specs.declared.path.Side.{Side}
+use Rattle.tree_core.specs.declared.path.Side.TheVariants.{Kept, Merged}
 use Rattle.move_text.specs.Common.{HasSets, HasShortPath}
 
 -- a path along which a tree changes

@@ -5,7 +5,7 @@ use Rattle.graph_core.specs.from_line_text.Common.{Stands, is_closed, written, u
 use Rattle.graph_core.proofs.from_line_text.Decimals.{is_word-decimal}
 use Rattle.graph_core.proofs.from_line_text.ReadBack.{AreSkipped-written, Stands-comments, is_closed-unlines}
 use Rattle.graph_core.proofs.Common.{Graph}
-use Rattle.move_text.proofs.from_tree_core.Common.{PlainMove, Shape, leaf_count}
+use Rattle.tree_core.proofs.Common.{PlainMove, Shape, leaf_count}
 use Rattle.move_text.specs.Common.{move_format, header_words, move_words, moves_text}
 use Rattle.bench_outcomes.specs.from_report_text.Common.{script_line, script_report_text}
 use Rattle.bench_outcomes.specs.Common.{IsScript, Scripted}

@@ -1,9 +1,9 @@
 -- A move has no result if and only if it has the fault that `stuck_fault` says. Idea: induction
 -- over the path; a step down changes neither whether there is a result nor the fault.
 use Rattle.std.proofs.Common.{◌≡◌, ◌↔◌, inl, inr, ℕ, List, [], ◌∷◌, Bool, true, false, refl, sym, subst, arith, option_map, if◌then◌else◌, Option, Some, None}
-use Rattle.move_text.specs.from_tree_core.Common.{PlainMove, Shape, cut, leaf, move_result, rotate_at, rotate_result, switch_at, switch_result}
-use Rattle.move_text.specs.from_tree_core.declared.path.Side.{Side}
-use Rattle.move_text.specs.from_tree_core.declared.path.Side.TheVariants.{Kept, Merged}
+use Rattle.tree_core.specs.Common.{PlainMove, Shape, cut, leaf, move_result, rotate_at, rotate_result, switch_at, switch_result}
+use Rattle.tree_core.specs.declared.path.Side.{Side}
+use Rattle.tree_core.specs.declared.path.Side.TheVariants.{Kept, Merged}
 use Rattle.refusals.specs.declared.faults.StuckFault.{StuckFault}
 use Rattle.refusals.specs.declared.faults.StuckFault.TheVariants.{NoCut, Crossing, NotParts}
 use Rattle.bench_outcomes.specs.Common.{AreNoParts, CrossesParent, IsStuckBy, leads_to_cut, stuck_fault}

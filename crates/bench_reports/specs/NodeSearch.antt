@@ -2,8 +2,8 @@
 -- Stated by: bench_reports.
 use Rattle.std.specs.Prelude.{◌≡◌, ◌≤◌, ◌<◌, ℕ, ◌+◌, true, List, ◌++◌, length, Option, Some, None}
 use Rattle.move_text.specs.from_counting.Common.{mem}
-use Rattle.move_text.specs.from_tree_core.Common.{Shape, node_count}
-use Rattle.move_text.specs.from_tree_core.declared.path.Side.{Side}
+use Rattle.tree_core.specs.Common.{Shape, node_count}
+use Rattle.tree_core.specs.declared.path.Side.{Side}
 use Rattle.bench_outcomes.specs.Common.{IsPlaceAt, nodes_before, steps_to, subtree_at}
 use Rattle.bench_reports.specs.declared.node_places.Sought.{Sought}
 use Rattle.bench_reports.specs.declared.node_places.Sought.TheVariants.{Found, Beyond}

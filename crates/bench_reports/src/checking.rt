@@ -1,7 +1,7 @@
 //! Whether a tree is a derivation of a graph, as `check` reports it.
 ghost use Rattle.std.specs.Prelude.{◌≡◌, ◌∷◌, [], List, IfOk, IfSome, Some};
 ghost use Rattle.graph_core.specs.Common.{Graph};
-ghost use Rattle.move_text.specs.from_tree_core.Common.{IsDerivation, IsTally, Fits, Shape, leaves, shape_of};
+ghost use Rattle.tree_core.specs.Common.{IsDerivation, IsTally, Fits, Shape, leaves, shape_of};
 ghost use Rattle.bench_outcomes.specs.from_tree_check.Common.{why_of, why_number, IsRefused};
 ghost use Rattle.bench_outcomes.specs.Common.{AcceptedTree, CheckGives, IsInTrees, IsOfGraph, RefusedTree, RefusesIfAny, node_fault_of, shown_of, tree_numbered};
 
@@ -12,9 +12,9 @@ use bench_outcomes::tree_check::{KnownPlaces, Scanned, Why, scan_covered, scan_k
 use bench_outcomes::{Report, Status};
 use gallai_edmonds::graph_facts::Covered;
 use graph_core::MultiGraph;
-use move_text::tree_core::{Tally, Tree};
 use refusals::{NodeFault, Refusal};
 use std::alloc::{AllocError as Memory, Global};
+use tree_core::{Tally, Tree};
 
 /// The number of a reason.
 pub fn number_of(why: &Why) -> u32

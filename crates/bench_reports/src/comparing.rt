@@ -1,6 +1,6 @@
 //! The comparison of two derivations of a graph, as `compare` and `script` report it.
 ghost use Rattle.std.specs.Prelude.{◌≡◌, ◌≤◌, ◌<◌, ◌+◌, ◌^◌, ◌∷◌, [], Err, IfOk, IfSome, length, map};
-ghost use Rattle.move_text.specs.from_tree_core.Common.{IsDerivation, moves_of, Fits, leaf_count, shape_of};
+ghost use Rattle.tree_core.specs.Common.{IsDerivation, moves_of, Fits, leaf_count, shape_of};
 ghost use Rattle.uncross.specs.Common.{map_of, maps_of};
 ghost use Rattle.bench_outcomes.specs.Common.{Compared, IsInTrees, IsOfGraph, RefusesPair, RefusesPairIfAny, Scripted, line_of, map_lines_of};
 
@@ -12,9 +12,9 @@ use bench_outcomes::tree_check::KnownPlaces;
 use bench_outcomes::{Report, Status};
 use contraction::Partition;
 use gallai_edmonds::graph_facts::Covered;
-use move_text::tree_core::{Partitions, Tree, leaves, nodes};
 use move_text::write_moves;
 use std::alloc::{AllocError as Memory, Global};
+use tree_core::{Partitions, Tree, leaves, nodes};
 use uncross::{LeafMap, LeafMaps, compare_covered, moves_between_covered};
 
 // The report that refuses one of two trees of a covered graph: the first tree is not a derivation

@@ -1,7 +1,7 @@
 //! The decomposition of a graph by tight cuts, as `decompose` reports it.
 ghost use Rattle.std.specs.Prelude.{◌≡◌, ◌<◌, ◌≤◌, IfOk, length, map};
 ghost use Rattle.graph_text.specs.Common.{named_graph};
-ghost use Rattle.move_text.specs.from_tree_core.Common.{IsDerivation, leaves, place_of, shape_of};
+ghost use Rattle.tree_core.specs.Common.{IsDerivation, leaves, place_of, shape_of};
 ghost use Rattle.bench_outcomes.specs.from_decomposer.Common.{ScriptPicks, IsPicked};
 ghost use Rattle.bench_outcomes.specs.Common.{DecomposeGives, IsOfGraph, TellsDerivation};
 

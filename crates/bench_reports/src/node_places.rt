@@ -1,13 +1,13 @@
 //! Where a node of a tree is.
 ghost use Rattle.std.specs.Prelude.{◌≡◌, ◌<◌, ◌≤◌, ◌++◌, ◌∷◌, [], List};
-ghost use Rattle.move_text.specs.from_tree_core.Common.{node_count, shape_of};
-ghost use Rattle.move_text.specs.from_tree_core.declared.path.Side.{Side};
+ghost use Rattle.tree_core.specs.Common.{node_count, shape_of};
+ghost use Rattle.tree_core.specs.declared.path.Side.{Side};
 ghost use Rattle.bench_outcomes.specs.Common.{IsNodePlace, IsPlaceAt, root_shore};
 ghost use Rattle.bench_reports.specs.NodeSearch.{AreKeptSteps, IsFoundPlace, IsPassed};
 
 use graph_core::vset_core::{MOST_VERTICES, VSet};
-use move_text::tree_core::{Side, Tree};
 use refusals::NodePlace;
+use tree_core::{Side, Tree};
 
 // The steps from the root of a tree to one of its nodes, at most 128.
 #[derive(Clone, Copy)]

@@ -1,7 +1,7 @@
 //! What a script of moves makes of a derivation, as `replay` reports it.
 ghost use Rattle.std.specs.Prelude.{◌≡◌, ◌≤◌, ◌<◌, IfOk, Some, length};
 ghost use Rattle.std.specs.Option.{option_map};
-ghost use Rattle.move_text.specs.from_tree_core.Common.{IsDerivation, moves_of, Fits, Shape, node_count, shape_of};
+ghost use Rattle.tree_core.specs.Common.{IsDerivation, moves_of, Fits, Shape, node_count, shape_of};
 ghost use Rattle.bench_outcomes.specs.from_tree_check.Common.{why_of, why_number};
 ghost use Rattle.move_text.specs.Common.{most_moves};
 ghost use Rattle.move_text.specs.from_tree_text.Common.{tree_text};
@@ -17,10 +17,10 @@ use bench_outcomes::tree_check::{KnownPlaces, Replayed, Why, replay_covered};
 use bench_outcomes::{Report, Status};
 use gallai_edmonds::graph_facts::Covered;
 use graph_core::MultiGraph;
-use move_text::tree_core::{Moves, Tree, apply, copy};
 use move_text::tree_text::write_tree;
 use refusals::{NodePlace, Refusal, StuckFault};
 use std::alloc::{AllocError as Memory, Global};
+use tree_core::{Moves, Tree, apply, copy};
 
 // The text of the last tree, and then the number of moves.
 fn last_tree_report(

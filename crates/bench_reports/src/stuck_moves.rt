@@ -1,12 +1,12 @@
 //! Why a move has no result.
 ghost use Rattle.std.specs.Prelude.{◌≡◌, ◌≢◌, ◌↔◌, IsTrue, ℕ};
 ghost use Rattle.graph_core.specs.Common.{Graph};
-ghost use Rattle.move_text.specs.from_tree_core.Common.{IsDerivation, move_of, shape_of};
+ghost use Rattle.tree_core.specs.Common.{IsDerivation, move_of, shape_of};
 ghost use Rattle.bench_outcomes.specs.Common.{HasNoResult, IsStuckBy, leads_to_cut, stuck_fault};
 ghost use Rattle.refusals.specs.declared.faults.StuckFault.TheVariants.{Crossing};
 
-use move_text::tree_core::{Move, Side, Tree};
 use refusals::StuckFault;
+use tree_core::{Move, Side, Tree};
 
 // Whether the path leads to a cut. Takes no memory.
 fn leads_to_cut(tree: &Tree, path: &[Side]) -> bool

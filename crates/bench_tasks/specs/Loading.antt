@@ -10,7 +10,7 @@ use Rattle.graph_core.specs.from_line_text.declared.faults.FaultKind.{FaultKind}
 use Rattle.graph_core.specs.from_line_text.declared.faults.FaultKind.TheVariants.{Limit}
 use Rattle.graph_text.specs.Common.{NamedGraph, either_version}
 use Rattle.graph6_text.specs.Common.{outcome_of}
-use Rattle.move_text.specs.from_tree_core.Common.{Shape, PlainMove}
+use Rattle.tree_core.specs.Common.{Shape, PlainMove}
 use Rattle.move_text.specs.from_tree_text.Common.{pick_format, tree_format}
 use Rattle.move_text.specs.Common.{move_format}
 use Rattle.ear_text.specs.from_ear_core.Common.{PlainEars}

@@ -5,7 +5,7 @@ use Rattle.outside.specs.Common.{Rose, NamedFile}
 use Rattle.graph_core.specs.from_line_text.Common.{kind_number}
 use Rattle.graph_core.specs.Common.{Graph}
 use Rattle.graph_text.specs.Common.{NamedGraph, named_graph}
-use Rattle.move_text.specs.from_tree_core.Common.{shape_of, moves_of, PlainMove, Shape}
+use Rattle.tree_core.specs.Common.{shape_of, moves_of, PlainMove, Shape}
 use Rattle.ear_text.specs.from_ear_core.Common.{PlainEars, ears_of}
 use Rattle.bench_tasks.specs.Loading.{Loaded, All, Bad, on_tree, on_picks, on_ears, on_moves, on_trees}
 use Rattle.bench_tasks.specs.Reads.{FailsAs, IsReadFault}

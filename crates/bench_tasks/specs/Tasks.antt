@@ -3,7 +3,7 @@
 use Rattle.std.specs.Prelude.{◌≡◌, ℕ, List}
 use Rattle.graph_core.specs.Common.{Graph}
 use Rattle.graph_text.specs.Common.{NamedGraph}
-use Rattle.move_text.specs.from_tree_core.Common.{Shape, PlainMove}
+use Rattle.tree_core.specs.Common.{Shape, PlainMove}
 use Rattle.ear_text.specs.from_ear_core.Common.{PlainEars}
 use Rattle.bench_tasks.specs.Commands.{Command}
 use Rattle.bench_tasks.specs.Commands as command

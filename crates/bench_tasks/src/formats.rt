@@ -6,7 +6,7 @@ ghost use Rattle.graph_core.specs.Common.{Graph, size};
 ghost use Rattle.graph_core.specs.from_line_text.declared.faults.FaultKind.{FaultKind};
 ghost use Rattle.graph_text.specs.Common.{NamedGraph, either_version, named_graph};
 ghost use Rattle.graph6_text.specs.Common.{outcome_of};
-ghost use Rattle.move_text.specs.from_tree_core.Common.{Fits, Shape, shape_of, PlainMove, moves_of};
+ghost use Rattle.tree_core.specs.Common.{Fits, Shape, shape_of, PlainMove, moves_of};
 ghost use Rattle.move_text.specs.from_tree_text.Common.{pick_format, tree_format};
 ghost use Rattle.move_text.specs.Common.{most_moves, move_format};
 ghost use Rattle.ear_text.specs.from_ear_core.Common.{FitsEars, PlainEars, ears_of};
@@ -22,10 +22,10 @@ use graph_core::{MultiGraph, Numbers};
 use graph_text::{Named, read_any};
 use graph6_text::read_graph6;
 use move_text::read_moves;
-use move_text::tree_core::{Moves, Tree};
 use move_text::tree_text::{read_picks, read_tree};
 use refusals::FileKind;
 use std::alloc::Global;
+use tree_core::{Moves, Tree};
 
 /// A format of files. The ghost member `reading` says what a text stands for, or its first fault.
 pub trait FileFormat {

@@ -3,7 +3,7 @@
 ghost use Rattle.std.specs.declared.option.Option.TheVariants.{Some};
 ghost use Rattle.std.specs.Prelude.{◌≡◌, ◌≤◌, [], ◌∷◌, IfOk, IfErr, length};
 ghost use Rattle.outside.specs.Common.{file_named};
-ghost use Rattle.move_text.specs.from_tree_core.Common.{Fits, shape_of, moves_of};
+ghost use Rattle.tree_core.specs.Common.{Fits, shape_of, moves_of};
 ghost use Rattle.move_text.specs.Common.{most_moves};
 ghost use Rattle.ear_text.specs.from_ear_core.Common.{FitsEars, ears_of};
 ghost use Rattle.graph_core.specs.Common.{size};
@@ -16,10 +16,10 @@ use crate::tasks::{GivenEars, GivenMoves, GivenPicks, GivenTree, GivenTrees};
 use ear_text::ear_core::EarList;
 use graph_core::MultiGraph;
 use graph_core::line_text::{FaultKind, TextFault};
-use move_text::tree_core::{Moves, Tree};
 use outside::{Explain, MOST_BYTES, ShelfFault};
 use refusals::FileKind;
 use std::alloc::Global;
+use tree_core::{Moves, Tree};
 
 // The file of that name, which is outside this format, or too long, and its bytes.
 fn faulty<'a, F: FileFormat>(format: &F, name: &'a str, bytes: Option<Vec<u8>>) -> FaultyFile<'a>

@@ -1,7 +1,7 @@
 //! What a command works on.
 ghost use Rattle.std.specs.Prelude.{◌≤◌, length};
 ghost use Rattle.graph_core.specs.Common.{size, IsSimple};
-ghost use Rattle.move_text.specs.from_tree_core.Common.{Fits, shape_of};
+ghost use Rattle.tree_core.specs.Common.{Fits, shape_of};
 ghost use Rattle.move_text.specs.Common.{most_moves};
 ghost use Rattle.ear_text.specs.from_ear_core.Common.{FitsEars, ears_of};
 
@@ -12,7 +12,7 @@ use crate::verbs::{
 use ear_text::ear_core::EarList;
 use graph_core::{MultiGraph, Numbers};
 use graph_text::Named;
-use move_text::tree_core::{Moves, Tree};
+use tree_core::{Moves, Tree};
 
 /// A simple graph.
 #[derive(Drop)]

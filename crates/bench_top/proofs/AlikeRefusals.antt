@@ -2,7 +2,7 @@
 -- node that breaks a rule is one, and so is the rule, and the first step or move that fails.
 use Rattle.move_text.proofs.from_counting.Common.{◌≡◌, ◌∙◌, ℕ, List, ◌++◌, inl, inr, refl, sym, ap₂, subst, arith, codes, singleton}
 use Rattle.graph_core.proofs.Common.{Graph, IsGraph}
-use Rattle.move_text.proofs.from_tree_core.Common.{IsDerivation, PlainMove, Shape}
+use Rattle.tree_core.proofs.Common.{IsDerivation, PlainMove, Shape}
 use Rattle.bench_reports.proofs.from_tree_check.FirstRefusals.{refused-not_derived, refused-once}
 use Rattle.bench_reports.proofs.from_tree_check.ReplayAnswers.{refused-exactly, refused_move-once, stuck-exactly}
 use Rattle.bench_reports.specs.from_tree_check.Common.{Why, even, not_blocks, not_leaf, not_tight, trivial, why_number, without_matching, IsRefusedMoveAt}

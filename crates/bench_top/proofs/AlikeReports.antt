@@ -6,10 +6,10 @@ use Rattle.graph_core.proofs.Common.{Graph, IsMultigraph, singles}
 use Rattle.graph_text.specs.Common.{NamedGraph}
 use Rattle.bench_reports.specs.from_tight_cuts.Common.{Candidate}
 use Rattle.ear_text.specs.from_ear_core.Common.{PlainEars}
-use Rattle.move_text.proofs.from_tree_core.Common.{leaves, PlainMove, Shape, IsTally}
+use Rattle.tree_core.proofs.Common.{leaves, PlainMove, Shape, IsTally}
 use Rattle.bench_reports.proofs.from_tree_check.ReplayAnswers.{last-once}
 use Rattle.mcg6_lines.specs.from_report_text.declared.judgements.TreeLine.TheVariants as line
-use Rattle.move_text.specs.from_tree_core.declared.tallies.Tally.{Tally}
+use Rattle.tree_core.specs.declared.tallies.Tally.{Tally}
 use Rattle.bench_reports.specs.from_grow_gen.Common.{grown}
 use Rattle.bench_reports.specs.from_bench_outcomes.Common.{CheckGives, RefusesTree, EarCheckGives, MayBeBerge, Grown, IsCountedTree, Analysed, Analysed6, DecomposeGives, TellsDerivation, ReplayGives, ReplayedTree}
 use Rattle.bench_top.specs.Fixed.{DifferAtMostIn}

@@ -8,7 +8,7 @@ use Rattle.ear_text.specs.from_ear_core.Common.{PlainEars}
 use Rattle.graph_core.proofs.Common.{Graph, IsMultigraph}
 use Rattle.graph_core.specs.from_line_text.declared.faults.FaultKind.{FaultKind}
 use Rattle.graph_text.specs.Common.{NamedGraph, either_version}
-use Rattle.move_text.proofs.from_tree_core.Common.{PlainMove, Shape}
+use Rattle.tree_core.proofs.Common.{PlainMove, Shape}
 use Rattle.bench_reports.specs.from_bench_tasks.Common.{Command, OnGraph, OnSimpleGraph, OnTree, OnPicks, OnEars, OnMoves, OnTrees, OnNumbers, Loaded, All, Bad, Absent, and_then, ear_file, ears_given, file_read, graph6_file, graph_file, loaded, loaded_as, move_file, moves_given, on_ears, on_moves, on_picks, on_tree, on_trees, pick_file, picks_given, tree_file, tree_given, trees_given}
 use Rattle.bench_reports.specs.from_bench_tasks.Tasks as task
 use Rattle.bench_top.proofs.ReadGraphs.{GoesOn, HasGraph, IsRead, read-graph}

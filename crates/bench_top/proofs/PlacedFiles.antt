@@ -10,7 +10,7 @@ use Rattle.graph_core.specs.from_line_text.Common.{reading_of}
 use Rattle.graph_core.specs.Common.{size}
 use Rattle.graph_text.specs.Common.{NamedGraph, either_version}
 use Rattle.graph6_text.specs.Common.{outcome_of}
-use Rattle.move_text.specs.from_tree_core.Common.{Shape}
+use Rattle.tree_core.specs.Common.{Shape}
 use Rattle.move_text.specs.from_tree_text.Common.{pick_format, tree_format}
 use Rattle.move_text.specs.Common.{move_format}
 use Rattle.ear_text.specs.EarFormat.{ear_format}

@@ -5,7 +5,7 @@ use Rattle.outside.specs.Common.{NamedFile, file_named, most_bytes}
 use Rattle.graph_core.specs.from_line_text.Common.{reading_of}
 use Rattle.graph_core.proofs.from_line_text.ExactlyOne.{Stands-reading_of}
 use Rattle.graph_text.specs.Common.{NamedGraph, either_version}
-use Rattle.move_text.proofs.from_tree_core.Common.{PlainMove, Shape}
+use Rattle.tree_core.proofs.Common.{PlainMove, Shape}
 use Rattle.move_text.specs.from_tree_text.Common.{tree_format, tree_text}
 use Rattle.move_text.specs.Common.{move_format}
 use Rattle.mcg6_lines.specs.from_report_text.Common.{replayed_text}

@@ -10,7 +10,7 @@ use Rattle.graph_core.proofs.Common.{Graph, IsGraph, size, singles}
 use Rattle.graph_text.specs.Common.{either_version, FitsVersionOne, version_one, graph_text, graph_words}
 use Rattle.graph_text.proofs.VersionOneReadBack.{Stands-graph_text}
 use Rattle.graph_text.proofs.Versions.{Stands-either}
-use Rattle.move_text.proofs.from_tree_core.Common.{IsDerivation, IsDerivationAt, kept_at, merged_at, leaves, Shape, leaf, cut, IsTally, is_brick, fits-derivation, stands-derivation, leaf_count-cuts, length-leaves_at, node_count-cuts, few-nodes}
+use Rattle.tree_core.proofs.Common.{IsDerivation, IsDerivationAt, kept_at, merged_at, leaves, Shape, leaf, cut, IsTally, is_brick, fits-derivation, stands-derivation, leaf_count-cuts, length-leaves_at, node_count-cuts, few-nodes}
 use Rattle.move_text.specs.from_tree_text.Common.{tree_format, ShoresRise, tree_text}
 use Rattle.move_text.proofs.from_tree_text.TreeReadBack.{Stands-tree_text}
 use Rattle.ear_text.specs.from_ear_core.Common.{IsEarList, PlainEars}
@@ -19,7 +19,7 @@ use Rattle.ear_text.specs.EarFormat.{ear_format}
 use Rattle.ear_text.specs.Writing.{ears_text, header_words, start_words, step_words}
 use Rattle.ear_text.proofs.EarsReadBack.{Stands-ears_text}
 use Rattle.mcg6_lines.specs.from_report_text.Common.{IsCommented, ears_report_text, steps_line, grown_text, growth_lines, order_line, pairs_line, moves_line, replayed_text}
-use Rattle.move_text.specs.from_tree_core.declared.tallies.Tally.{Tally}
+use Rattle.tree_core.specs.declared.tallies.Tally.{Tally}
 use Rattle.mcg6_lines.proofs.from_report_text.Comments.{commented-both, commented-line, commented-tail, stands-commented}
 use Rattle.bench_reports.specs.from_bench_outcomes.Common.{double_count, is_single, single_count}
 use Rattle.bench_reports.proofs.from_bench_outcomes.DerivationTexts.{closed-tree_text, has-vertices}

@@ -10,7 +10,7 @@ use Rattle.graph_core.specs.from_line_text.declared.faults.FaultKind.{FaultKind}
 use Rattle.graph_text.specs.Common.{NamedGraph, either_version, FitsVersionOne}
 use Rattle.bench_reports.specs.from_grow_gen.Common.{grown}
 use Rattle.bench_reports.specs.from_tight_cuts.Common.{Candidate}
-use Rattle.move_text.proofs.from_tree_core.Common.{IsDerivation, PlainMove, Shape}
+use Rattle.tree_core.proofs.Common.{IsDerivation, PlainMove, Shape}
 use Rattle.move_text.specs.from_tree_text.Common.{tree_format}
 use Rattle.bench_reports.proofs.from_tree_check.ReplaySteps.{reached-derivation}
 use Rattle.move_text.specs.Common.{move_format}

@@ -4,7 +4,7 @@
 use Rattle.std.specs.Prelude.{◌≡◌, List, [], ◌∷◌, ℕ, Some, codes, length}
 use Rattle.outside.specs.Common.{NamedFile}
 use Rattle.graph_text.specs.Common.{NamedGraph}
-use Rattle.move_text.specs.from_tree_core.Common.{PlainMove, Shape, leaf_count}
+use Rattle.tree_core.specs.Common.{PlainMove, Shape, leaf_count}
 use Rattle.move_text.specs.from_tree_text.Common.{tree_text}
 use Rattle.move_text.specs.Common.{moves_text}
 use Rattle.mcg6_lines.specs.from_report_text.Common.{replayed_text, script_report_text}

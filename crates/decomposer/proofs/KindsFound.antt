@@ -3,8 +3,8 @@
 use Rattle.graph_core.proofs.from_counting.Common.{◌≡◌, ℕ, ◌+◌, ◌≤◌, List, [], ◌∷◌, ◌++◌, length, append_assoc, ap, subst, ◌∙◌, arith, complement, count, mem}
 use Rattle.graph_core.proofs.Common.{Graph, blocks_in}
 use Rattle.tight_cuts.specs.Common.{Candidate, candidates_at}
-use Rattle.tight_cuts.proofs.from_tree_core.Common.{IsCutAt, IsLeafAt, IsLeafKind, PlaceValue, Shape, blocks-below, cut, kept_at, kinds-both, kinds-one, leaf, leaves_at, merged_at, place_of}
-use Rattle.tight_cuts.specs.from_tree_core.declared.tallies.LeafKind.{LeafKind}
+use Rattle.tree_core.proofs.Common.{IsCutAt, IsLeafAt, IsLeafKind, PlaceValue, Shape, blocks-below, cut, kept_at, kinds-both, kinds-one, leaf, leaves_at, merged_at, place_of}
+use Rattle.tree_core.specs.declared.tallies.LeafKind.{LeafKind}
 use Rattle.decomposer.specs.Common.{AppendsKinds, FindsKinds, PicksShore}
 
 -- the kind of a leaf is appended

@@ -7,7 +7,7 @@ use Rattle.tight_cuts.proofs.FirstCandidates.{first-one, first-place}
 use Rattle.tight_cuts.proofs.PartitionCandidates.{found-root, root-candidates}
 use Rattle.tight_cuts.specs.Common.{Candidate, candidates, first_of, first_shore, IsCandidateAt, candidates_at, candidate_of}
 use Rattle.tight_cuts.specs.declared.candidate.Candidate.{Candidate as StoredCandidate}
-use Rattle.tight_cuts.proofs.from_tree_core.Common.{IsCutAt, PlaceValue, Shape, cut, kept_at, leaves_at, merged_at, place_of}
+use Rattle.tree_core.proofs.Common.{IsCutAt, PlaceValue, Shape, cut, kept_at, leaves_at, merged_at, place_of}
 use Rattle.decomposer.specs.Common.{NamedPicks, Finds, IsPickedShore, PicksShore, leaf_places}
 use Rattle.decomposer.specs.declared.orders.NamedOrder.TheVariants.{First}
 

@@ -6,7 +6,7 @@ use Rattle.std.specs.Prelude.{◌≡◌, ℕ, ◌+◌, ◌++◌, List, [], All, 
 use Rattle.graph_core.specs.Common.{Graph, singles}
 use Rattle.tight_cuts.specs.Common.{Candidate, first_of, IsCandidateAt, candidates_at, candidate_of}
 use Rattle.tight_cuts.specs.declared.candidate.Candidate.{Candidate as StoredCandidate}
-use Rattle.tight_cuts.specs.from_tree_core.Common.{IsCutAt, IsDerivationAt, IsLeafAt, PlaceValue, Shape, cut, cut_count, kept_at, leaf, leaves_at, merged_at, place_of}
+use Rattle.tree_core.specs.Common.{IsCutAt, IsDerivationAt, IsLeafAt, PlaceValue, Shape, cut, cut_count, kept_at, leaf, leaves_at, merged_at, place_of}
 
 -- the first candidate at p; none, and p is a leaf, where there is no candidate
 pub record IsFirstAt (g : Graph) (p : List (List ℕ)) (found : Option StoredCandidate) : Type 0 where

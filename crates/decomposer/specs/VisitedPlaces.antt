@@ -3,8 +3,8 @@
 use Rattle.std.specs.Prelude.{◌≡◌, ℕ, ◌+◌, ◌++◌, List}
 use Rattle.graph_core.specs.Common.{Graph}
 use Rattle.tight_cuts.specs.Common.{Candidate}
-use Rattle.tight_cuts.specs.from_tree_core.Common.{AreLeafKinds, IsDerivationAt, PlaceValue, Shape, cut_count, leaves_at}
-use Rattle.tight_cuts.specs.from_tree_core.declared.tallies.LeafKind.{LeafKind}
+use Rattle.tree_core.specs.Common.{AreLeafKinds, IsDerivationAt, PlaceValue, Shape, cut_count, leaves_at}
+use Rattle.tree_core.specs.declared.tallies.LeafKind.{LeafKind}
 use Rattle.decomposer.specs.Picked.{IsPickedAt}
 
 -- a place of g

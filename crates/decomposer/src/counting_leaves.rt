@@ -1,11 +1,11 @@
 //! The numbers of the leaves of a decomposition.
 ghost use Rattle.std.specs.Prelude.{◌≡◌, map, IfOk};
-ghost use Rattle.tight_cuts.specs.from_tree_core.Common.{IsDerivation, IsTally, leaves, place_of, shape_of};
+ghost use Rattle.tree_core.specs.Common.{IsDerivation, IsTally, leaves, place_of, shape_of};
 
 use crate::decomposition::Decomposition;
 use std::alloc::{AllocError, Global};
 use tight_cuts::graph_facts::Covered;
-use tight_cuts::tree_core::{Tally, kinds_at, tallied};
+use tree_core::{Tally, kinds_at, tallied};
 
 /// How many leaves a decomposition of a covered graph has, and how many of them are bricks and
 /// braces.

@@ -1,7 +1,7 @@
 //! The decomposition of a covered graph by tight cuts: the tree, and its leaves as places.
 ghost use Rattle.std.specs.Prelude.{◌≡◌, ◌≤◌, ◌+◌, length, map, IfOk, Some};
 ghost use Rattle.tight_cuts.specs.Common.{AreClustersAt, candidates, first_shore, candidates_at};
-ghost use Rattle.tight_cuts.specs.from_tree_core.Common.{IsCutAt, IsDerivation, cut, cut_count, leaves, place_of, shape_of};
+ghost use Rattle.tree_core.specs.Common.{IsCutAt, IsDerivation, cut, cut_count, leaves, place_of, shape_of};
 ghost use Rattle.decomposer.specs.Common.{NamedPicks, Finds, IsPicked, PicksShore};
 
 use crate::orders::{NamedOrder, Order};
@@ -10,7 +10,7 @@ use graph_core::vset_core::VSet;
 use std::alloc::{AllocError, Global};
 use tight_cuts::Clusters;
 use tight_cuts::graph_facts::Covered;
-use tight_cuts::tree_core::{KnownPlace, Tree};
+use tree_core::{KnownPlace, Tree};
 
 /// The tree of tight cuts that an order picks, with its leaves as places: what the search found
 /// of their quotients is known.

@@ -8,8 +8,8 @@ ghost use Rattle.decomposer.specs.Common.{NamedPicks, AreCandidatesAt, IsFirstAt
 use crate::orders::{NamedOrder, Order};
 use graph_core::vset_core::VSet;
 use std::alloc::{AllocError, Global};
-use tight_cuts::tree_core::KnownPlace;
 use tight_cuts::{Candidate, CandidateList, Clusters, candidates_from_clusters, first_at_place};
+use tree_core::KnownPlace;
 
 /// The shore of the candidate that the order picks at a place with so many cuts before it; none if
 /// and only if there is no candidate. The clusters are those that are known at the place.

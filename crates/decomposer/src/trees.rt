@@ -1,7 +1,7 @@
 //! The trees of decompositions, without their leaves.
 ghost use Rattle.std.specs.Prelude.{◌≡◌, IfOk, Err};
 ghost use Rattle.graph_core.specs.Common.{IsCovered, IsReason, reason_of};
-ghost use Rattle.tight_cuts.specs.from_tree_core.Common.{IsDerivation, shape_of};
+ghost use Rattle.tree_core.specs.Common.{IsDerivation, shape_of};
 ghost use Rattle.decomposer.specs.Common.{IsPicked};
 
 use crate::decomposition::decompose_places;
@@ -9,7 +9,7 @@ use crate::orders::Order;
 use graph_core::{MultiGraph, Reason};
 use std::alloc::{AllocError, Global};
 use tight_cuts::graph_facts::Covered;
-use tight_cuts::tree_core::Tree;
+use tree_core::Tree;
 
 /// Why there is no decomposition.
 #[derive(Clone, Copy, PartialEq, Eq)]

@@ -2,7 +2,7 @@
 //! searched again: its quotient and its candidates are known.
 ghost use Rattle.std.specs.Prelude.{◌≡◌, ◌↔◌, ◌≤◌, ◌+◌, All, Some, length, slice_get, IfOk, IfSome, IsTrue, OnOk};
 ghost use Rattle.tight_cuts.specs.Common.{AreClustersAt};
-ghost use Rattle.tight_cuts.specs.from_tree_core.Common.{IsDerivation, IsTally, cut_count, leaves, place_of, shape_of};
+ghost use Rattle.tree_core.specs.Common.{IsDerivation, IsTally, cut_count, leaves, place_of, shape_of};
 ghost use Rattle.decomposer.specs.Common.{FindsKinds, IsPicked, IsPlaceOf};
 
 use crate::decomposition::{MOST_COUNTED, cut_tree};
@@ -11,8 +11,8 @@ use crate::shores::listed_shore;
 use std::alloc::{AllocError, Global};
 use std::marker::Model;
 use tight_cuts::graph_facts::Covered;
-use tight_cuts::tree_core::{KnownPlace, LeafKind, Place, Tally, Tree, tallied};
 use tight_cuts::{CandidateList, Clusters, candidates_from_clusters};
+use tree_core::{KnownPlace, LeafKind, Place, Tally, Tree, tallied};
 
 /// The tree of tight cuts that an order picks, with its leaves counted.
 #[derive(Drop)]
@@ -31,7 +31,7 @@ struct VisitedPlace<'g> {
 }
 
 impl<'g> Model for VisitedPlace<'g> {
-    ghost use Rattle.tight_cuts.specs.from_tree_core.Places.{PlaceValue};
+    ghost use Rattle.tree_core.specs.Places.{PlaceValue};
     ghost use Rattle.decomposer.specs.Picked.{AreCandidatesAt};
 
     ghost Value = { PlaceValue };

@@ -1,13 +1,13 @@
 //! A decomposition in the order of a closure: alternately by the first and by the last candidate.
 ghost use Rattle.std.specs.Prelude.{◌≡◌, ◌<◌, ◌-◌, ℕ, length, IfOk, Err};
 ghost use Rattle.graph_core.specs.Common.{IsCovered};
-ghost use Rattle.tree_check.specs.from_tree_core.Common.{IsDerivation, shape_of};
+ghost use Rattle.tree_core.specs.Common.{IsDerivation, shape_of};
 
 use decomposer::{ByFunction, Refused, decompose};
 use graph_core::MultiGraph;
 use std::alloc::Global;
 use tree_check::tight_cuts::Candidate;
-use tree_check::tree_core::Tree;
+use tree_core::Tree;
 
 /// Decomposes the graph by the first candidate if the number of cuts before the node is even, and
 /// otherwise by the last one. `NotCovered` comes if and only if the graph is not matching covered.

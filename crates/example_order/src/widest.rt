@@ -5,7 +5,7 @@ ghost use Rattle.graph_core.specs.from_line_text.declared.faults.TextFault.{Text
 ghost use Rattle.graph_core.specs.declared.verdict.Reason.{Reason};
 ghost use Rattle.graph_core.specs.from_line_text.Common.{Stands, IsFirstFault};
 ghost use Rattle.graph_text.specs.Common.{either_version, named_graph};
-ghost use Rattle.tree_check.specs.from_tree_core.Common.{IsDerivation, shape_of};
+ghost use Rattle.tree_core.specs.Common.{IsDerivation, shape_of};
 ghost use Rattle.decomposer.specs.Common.{IsPicked};
 ghost use Rattle.example_order.specs.Failures.{IsUncoveredText};
 ghost use Rattle.example_order.specs.WidestCuts.{PicksWidest};
@@ -16,8 +16,8 @@ use graph_core::line_text::TextFault;
 use graph_core::{MultiGraph, Reason};
 use graph_text::{Named, read_any};
 use std::alloc::Global;
-use tree_check::tree_core::Tree;
 use tree_check::{Judgement, check};
+use tree_core::Tree;
 
 /// Why there is no decomposition.
 #[derive(Drop)]

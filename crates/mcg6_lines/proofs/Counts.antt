@@ -2,12 +2,12 @@
 -- their leaves are paired (Lovász 1987).
 use Rattle.allowed_edges.proofs.from_counting.Common.{List, [], ap, arith, get_or, inl, inr, length, not, subst, sym, ℕ, ◌-◌, ◌==◌, ◌∙◌, ◌≡◌, count_by, Within, count}
 use Rattle.graph_core.proofs.Common.{Graph, IsGraph}
-use Rattle.move_laws.proofs.from_tree_core.Common.{partitions-leaves, IsDerivation, PlainLeafMap, leaf_at, map_at, leaves, Shape, AreLeafKinds, is_brick, kind_at, tally_of}
+use Rattle.tree_core.proofs.Common.{partitions-leaves, IsDerivation, PlainLeafMap, leaf_at, map_at, leaves, Shape, AreLeafKinds, is_brick, kind_at, tally_of}
 use Rattle.move_laws.proofs.Uniqueness.{pairing_law}
 use Rattle.move_laws.specs.Common.{IsPairing}
-use Rattle.move_laws.specs.from_tree_core.declared.tallies.LeafKind.{LeafKind}
-use Rattle.move_laws.specs.from_tree_core.declared.tallies.LeafKind.TheVariants.{Brick}
-use Rattle.move_laws.specs.from_tree_core.declared.tallies.Tally.{Tally}
+use Rattle.tree_core.specs.declared.tallies.LeafKind.{LeafKind}
+use Rattle.tree_core.specs.declared.tallies.LeafKind.TheVariants.{Brick}
+use Rattle.tree_core.specs.declared.tallies.Tally.{Tally}
 use Rattle.mcg6_lines.specs.Selecting.{HasProperty, LacksProperty}
 use Rattle.mcg6_lines.specs.Standings.{IsCounted}
 use Rattle.mcg6_lines.specs.declared.query.Property.{Property}

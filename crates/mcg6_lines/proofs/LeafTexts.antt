@@ -3,9 +3,9 @@
 use Rattle.std.proofs.Common.{List, [], ◌++◌, append_assoc, ap₂, arith, get_or, length, map, drop, ℕ, ◌+◌, ◌<◌, ◌≡◌}
 use Rattle.std.proofs.lemmas.List.{drop_more}
 use Rattle.graph_core.proofs.Common.{Graph}
-use Rattle.move_laws.proofs.from_tree_core.Common.{PlaceValue, place-at, place_of}
-use Rattle.move_laws.specs.from_tree_core.declared.tallies.LeafKind.{LeafKind}
-use Rattle.move_laws.specs.from_tree_core.declared.tallies.LeafKind.TheVariants.{Brick}
+use Rattle.tree_core.proofs.Common.{PlaceValue, place-at, place_of}
+use Rattle.tree_core.specs.declared.tallies.LeafKind.{LeafKind}
+use Rattle.tree_core.specs.declared.tallies.LeafKind.TheVariants.{Brick}
 use Rattle.mcg6_lines.specs.LeafLines.{leaf_line, leaf_lines}
 
 pub lines_next : (front : List ℕ) (g : Graph) (ps : List (List (List ℕ))) (kinds : List LeafKind) (i : ℕ) → i < length ps → i < length kinds →

@@ -8,7 +8,7 @@ use Rattle.graph_core.proofs.Common.{Graph, IsMultigraph, singles}
 use Rattle.mcg6_lines.proofs.ReadMultigraphs.{read-multigraph}
 use Rattle.graph6_text.specs.Common.{Fault, outcome_of}
 use Rattle.graph_core.specs.from_line_text.declared.faults.FaultKind.{FaultKind}
-use Rattle.move_laws.proofs.from_tree_core.Common.{leaves}
+use Rattle.tree_core.proofs.Common.{leaves}
 use Rattle.mcg6_lines.specs.KindLines.{IsKindLine, kind_line}
 use Rattle.mcg6_lines.specs.LeafLines.{AreLeafLines, AreLinesOf, TellsLeaves, line_front}
 use Rattle.mcg6_lines.specs.Selecting.{IsSelected}

@@ -8,7 +8,7 @@ use Rattle.graph_core.specs.declared.verdict.Kind.TheVariants.{Brace, Brick, Com
 use Rattle.graph_core.specs.declared.verdict.Reason.{Reason}
 use Rattle.leaf_kinds.specs.LeafKinds.{IsKind}
 use Rattle.report_text.specs.Common.{kind_word, reason_word, yes_or_no}
-use Rattle.move_laws.specs.from_tree_core.declared.tallies.Tally.{Tally}
+use Rattle.tree_core.specs.declared.tallies.Tally.{Tally}
 use Rattle.mcg6_lines.specs.KindLines.{TellsStanding, standing_words}
 use Rattle.mcg6_lines.specs.Standings.{IsStanding, IsStructured, IsUncovered, Standing, Uncovered, Structured}
 use Rattle.mcg6_lines.proofs.Counts.{same_counts}

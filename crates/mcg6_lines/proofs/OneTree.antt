@@ -6,10 +6,10 @@ use Rattle.graph_core.proofs.Common.{Graph}
 use Rattle.leaf_kinds.specs.from_tight_cuts.Common.{Candidate, candidates_at, candidate_of}
 use Rattle.leaf_kinds.specs.from_tight_cuts.declared.candidate.Candidate.{Candidate as StoredCandidate}
 use Rattle.decomposer.specs.Common.{PicksBalanced, gap, IsPickedAt, PicksShore, NamedPicks, ScriptPicks}
-use Rattle.move_laws.proofs.from_tree_core.Common.{kept_at, merged_at, leaf_at, Shape, leaf, cut, cut_count, AreLeafKinds, IsLeafKind, IsTally, kind_at, tally_of}
-use Rattle.move_laws.specs.from_tree_core.declared.tallies.LeafKind.{LeafKind}
-use Rattle.move_laws.specs.from_tree_core.declared.tallies.LeafKind.TheVariants.{Brick, Brace}
-use Rattle.move_laws.specs.from_tree_core.declared.tallies.Tally.{Tally}
+use Rattle.tree_core.proofs.Common.{kept_at, merged_at, leaf_at, Shape, leaf, cut, cut_count, AreLeafKinds, IsLeafKind, IsTally, kind_at, tally_of}
+use Rattle.tree_core.specs.declared.tallies.LeafKind.{LeafKind}
+use Rattle.tree_core.specs.declared.tallies.LeafKind.TheVariants.{Brick, Brace}
+use Rattle.tree_core.specs.declared.tallies.Tally.{Tally}
 use Rattle.decomposer.specs.declared.orders.NamedOrder.{NamedOrder}
 use Rattle.decomposer.specs.declared.orders.NamedOrder.TheVariants.{First, Last, Balanced}
 

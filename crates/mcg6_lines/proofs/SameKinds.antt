@@ -4,9 +4,9 @@ use Rattle.std.proofs.Common.{List, refl, sym, ℕ, ◌≡◌, ◌∙◌}
 use Rattle.graph_core.proofs.Common.{Graph, IsBipartite, IsGraph, IsPartition, quotient}
 use Rattle.move_laws.proofs.CarryingLaws.{turned-leaf}
 use Rattle.move_laws.specs.Common.{IsSameLeaf, image, turned_names}
-use Rattle.move_laws.proofs.from_tree_core.Common.{IsLeafKind, parted, parts_from_sides, sides_from_parts}
-use Rattle.move_laws.specs.from_tree_core.declared.tallies.LeafKind.{LeafKind}
-use Rattle.move_laws.specs.from_tree_core.declared.tallies.LeafKind.TheVariants.{Brick, Brace}
+use Rattle.tree_core.proofs.Common.{IsLeafKind, parted, parts_from_sides, sides_from_parts}
+use Rattle.tree_core.specs.declared.tallies.LeafKind.{LeafKind}
+use Rattle.tree_core.specs.declared.tallies.LeafKind.TheVariants.{Brick, Brace}
 
 -- sides are carried back
 sides_back : (g : Graph) (p q : List (List ℕ)) (names : List ℕ) → IsSameLeaf g p q names → IsBipartite (quotient g q) → IsBipartite (quotient g p)

@@ -4,9 +4,9 @@ use Rattle.std.proofs.Common.{[], ◌∷◌, arith}
 use Rattle.graph_core.proofs.Common.{singles-partition, tight-singles, IsCovered, Graph, IsMultigraph, singles, HasOnlyTrivialTightCuts}
 use Rattle.graph_core.specs.declared.verdict.Kind.TheVariants.{Brace, Brick}
 use Rattle.leaf_kinds.specs.LeafKinds.{IsKind}
-use Rattle.move_laws.proofs.from_tree_core.Common.{kinds-one, nontrivial-vertices, IsLeafAt, IsLeafKind, tally_of, bipartite_from_singles, singles_from_bipartite}
-use Rattle.move_laws.specs.from_tree_core.declared.tallies.LeafKind.{LeafKind}
-use Rattle.move_laws.specs.from_tree_core.declared.tallies.LeafKind.TheVariants as of_leaf
+use Rattle.tree_core.proofs.Common.{kinds-one, nontrivial-vertices, IsLeafAt, IsLeafKind, tally_of, bipartite_from_singles, singles_from_bipartite}
+use Rattle.tree_core.specs.declared.tallies.LeafKind.{LeafKind}
+use Rattle.tree_core.specs.declared.tallies.LeafKind.TheVariants as of_leaf
 use Rattle.mcg6_lines.specs.Standings.{IsCounted}
 
 uncut_leaf : (g : Graph) → IsMultigraph g → HasOnlyTrivialTightCuts g → IsLeafAt g (singles g.order)

@@ -6,10 +6,10 @@ use Rattle.std.specs.Prelude.{◌≡◌, ℕ, ◌++◌, ◌⊎◌, List, [], ◌
 use Rattle.graph_core.specs.Common.{IsCovered, Graph, quotient}
 use Rattle.graph6_text.specs.Common.{graph6_of}
 use Rattle.report_text.specs.Common.{leaf_kind_word}
-use Rattle.move_laws.specs.from_tree_core.Common.{IsDerivation, leaves, Shape, AreLeafKinds}
+use Rattle.tree_core.specs.Common.{IsDerivation, leaves, Shape, AreLeafKinds}
 use Rattle.decomposer.specs.Common.{NamedPicks, IsPicked}
 use Rattle.decomposer.specs.declared.orders.NamedOrder.{NamedOrder}
-use Rattle.move_laws.specs.from_tree_core.declared.tallies.LeafKind.{LeafKind}
+use Rattle.tree_core.specs.declared.tallies.LeafKind.{LeafKind}
 
 -- the front of a line: the number of the line in the list, and the graph in it
 abbrev pub line_front : ℕ → Graph → List ℕ

@@ -5,7 +5,7 @@ use Rattle.allowed_edges.specs.from_counting.Common.{Within, none, pair_set}
 use Rattle.graph_core.specs.Common.{IsCovered, Graph, HasPerfect, IsBicritical}
 use Rattle.graph_core.specs.declared.verdict.Kind.TheVariants as kind
 use Rattle.leaf_kinds.specs.LeafKinds.{IsKind}
-use Rattle.move_laws.specs.from_tree_core.declared.tallies.Tally.{Tally}
+use Rattle.tree_core.specs.declared.tallies.Tally.{Tally}
 use Rattle.mcg6_lines.specs.Standings.{IsCounted}
 use Rattle.mcg6_lines.specs.declared.query.Property.{Property}
 use Rattle.mcg6_lines.specs.declared.query.Property.TheVariants.{Covered, Uncovered, Perfect, Brick, Brace, Bicritical, Composite, Bricks, Braces}

@@ -7,8 +7,8 @@ use Rattle.graph_core.specs.Common.{IsCovered, IsMaximum, IsReason, Graph, IsBic
 use Rattle.graph_core.specs.declared.verdict.Kind.{Kind}
 use Rattle.graph_core.specs.declared.verdict.Reason.{Reason}
 use Rattle.leaf_kinds.specs.LeafKinds.{IsKind}
-use Rattle.move_laws.specs.from_tree_core.Common.{IsDerivation, leaves, Shape, IsTally}
-use Rattle.move_laws.specs.from_tree_core.declared.tallies.Tally.{Tally}
+use Rattle.tree_core.specs.Common.{IsDerivation, leaves, Shape, IsTally}
+use Rattle.tree_core.specs.declared.tallies.Tally.{Tally}
 pub use Rattle.mcg6_lines.specs.declared.standings.Standing.{Standing}
 pub use Rattle.mcg6_lines.specs.declared.standings.Standing.TheVariants.{Uncovered, Structured}
 

@@ -8,9 +8,9 @@ use crate::decimals::push_number;
 use crate::standings::Standing;
 use graph_core::{Kind, MultiGraph, Reason};
 use graph6_text::bare_text;
-use move_laws::tree_core::Tally;
 use report_text::{kind_word, reason_word, yes_or_no};
 use std::alloc::{AllocError as Memory, Global};
+use tree_core::Tally;
 
 // Room for the longest words, so that the line is written into one piece of memory.
 const WORDS_ROOM: usize = 56;

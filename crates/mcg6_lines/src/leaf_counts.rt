@@ -2,15 +2,15 @@
 ghost use Rattle.std.specs.Prelude.{◌≡◌, map, IfOk, Some};
 ghost use Rattle.leaf_kinds.specs.LeafKinds.{IsKind, cut_of};
 ghost use Rattle.leaf_kinds.specs.from_tight_cuts.Common.{candidates, first_shore};
-ghost use Rattle.move_laws.specs.from_tree_core.Common.{IsDerivation, leaves, place_of, shape_of};
+ghost use Rattle.tree_core.specs.Common.{IsDerivation, leaves, place_of, shape_of};
 ghost use Rattle.mcg6_lines.specs.Standings.{IsCounted};
 
 use decomposer::{Decomposition, NamedOrder, decompose_places, decompose_places_from_first, tally};
 use graph_core::Kind;
 use graph_core::vset_core::VSet;
 use leaf_kinds::graph_facts::Covered;
-use move_laws::tree_core::Tally;
 use std::alloc::{AllocError as Memory, Global};
+use tree_core::Tally;
 
 /// The numbers of bricks and braces of a covered graph of this kind: a brick or a brace is its
 /// only leaf.

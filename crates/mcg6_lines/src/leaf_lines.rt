@@ -1,7 +1,7 @@
 //! The lines of `leaves`.
 ghost use Rattle.std.specs.Prelude.{◌≡◌, ◌++◌, ℕ, List, Ok, IfOk, OnOk, map};
 ghost use Rattle.graph_core.specs.Common.{Graph};
-ghost use Rattle.move_laws.specs.from_tree_core.Common.{place_of};
+ghost use Rattle.tree_core.specs.Common.{place_of};
 ghost use Rattle.graph6_text.specs.Common.{outcome_of};
 ghost use Rattle.mcg6_lines.specs.LeafLines.{AreLeafLines, AreLinesOf, TellsLeaves, leaf_end, leaf_line, line_front};
 
@@ -10,9 +10,9 @@ use decomposer::{NamedOrder, decompose_places};
 use graph_core::MultiGraph;
 use graph6_text::{bare_text, push_graph6};
 use leaf_kinds::graph_facts::Covered;
-use move_laws::tree_core::{KnownPlace, LeafKind, kinds_at};
 use report_text::leaf_kind_word;
 use std::alloc::{AllocError as Memory, Global};
+use tree_core::{KnownPlace, LeafKind, kinds_at};
 
 /// The lines of the leaves of the derivation that the order picks, for the graph that stands in
 /// the text of the line with this number; nothing if the graph is not matching covered.

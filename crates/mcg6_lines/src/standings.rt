@@ -8,8 +8,8 @@ use graph_core::{Kind, MultiGraph, Reason};
 use leaf_kinds::graph_facts::Covered;
 use leaf_kinds::kind_of;
 use leaf_kinds::separation_kit::FirstPairs;
-use move_laws::tree_core::Tally;
 use std::alloc::{AllocError as Memory, Global};
+use tree_core::Tally;
 
 /// How a graph stands: it is not matching covered, or of which structure it is.
 #[derive(Clone, Copy)]

@@ -9,3 +9,4 @@ pub mod LeftBytes
 pub mod Readings
 pub mod Streaming
 pub mod OneEnding
+pub mod ReadBytes

@@ -60,7 +60,7 @@ so_far_none tells reports left reads written writes place held source sink found
       steps = refl;
     })
 
-written_behind :
+pub written_behind :
     (before now next : Option (List ℕ)) (first second : List ℕ) →
     now ≡ appended before first → next ≡ appended now second → next ≡ appended before (first ++ second)
 written_behind before now next first second one two =
@@ -146,10 +146,10 @@ module _ {S K : Type 0} {tells : LinePlace → List ℕ → List ℕ → Type 0}
       }
 
   -- the processing stopped before a piece was read
-  so_far_begins : (rest : List ℕ) → BeginningTold tells first_place (lines_of ((so_far.whole ++ held) ++ rest)) so_far.output
+  pub so_far_begins : (rest : List ℕ) → BeginningTold tells first_place (lines_of ((so_far.whole ++ held) ++ rest)) so_far.output
   so_far_begins rest = grind (arith, append_assoc so_far.whole held rest, lines_of-closed so_far.whole (held ++ rest) so_far.closed)
 
-  so_far_reports : (rest : List ℕ) → BeginningTold reports first_place (lines_of ((so_far.whole ++ held) ++ rest)) so_far.reported.more
+  pub so_far_reports : (rest : List ℕ) → BeginningTold reports first_place (lines_of ((so_far.whole ++ held) ++ rest)) so_far.reported.more
   so_far_reports rest = grind (arith, append_assoc so_far.whole held rest, lines_of-closed so_far.whole (held ++ rest) so_far.closed)
 
   -- a read failed: each complete line of what was read has been processed
@@ -166,7 +166,7 @@ module _ {S K : Type 0} {tells : LinePlace → List ℕ → List ℕ → Type 0}
         (subst (λ (p : LinePlace). GivesOutput tells bad lacks p (lines_of rest) ending output) so_far.at gives))
 
     -- and so are the reports on them
-    reported_behind : (rest : List ℕ) (last_founds : List BadLine) → Added (Reported reports bad lacks place (lines_of rest) ending) now_founds last_founds → Added (Reported reports bad lacks first_place (lines_of (so_far.whole ++ rest)) ending) founds last_founds
+    pub reported_behind : (rest : List ℕ) (last_founds : List BadLine) → Added (Reported reports bad lacks place (lines_of rest) ending) now_founds last_founds → Added (Reported reports bad lacks first_place (lines_of (so_far.whole ++ rest)) ending) founds last_founds
     reported_behind rest last_founds more = record {
       more = so_far.reported.more ++ more.more;
       right =

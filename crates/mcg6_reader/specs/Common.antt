@@ -8,3 +8,4 @@ pub use Rattle.mcg6_reader.specs.Told.{IsToldAs, LineTold, LineBad, IsKeptOfLine
 pub use Rattle.mcg6_reader.specs.Lists.{AllTold, BeginningTold, WholeTold, HasBadLine, LacksLine, ToldToBad, CutShort, HasOneOutputPerLine, HasOneFault, TellsApart}
 pub use Rattle.mcg6_reader.specs.Endings.{GivesOutput, Reported, ReportsWith, ending_of, Appended, Added, WholeLinesTold, ToldThrough, StopsWith, Wrote, WroteCut, WroteUpTo, IsKnownLeft, TellsList, ReadsTold}
 pub use Rattle.mcg6_reader.specs.Streams.{Stage, Step, Steps, MayFollow, GivesAfter, EndsAfter, EndsUnread, EndsTorn, Ends, IsStream}
+pub use Rattle.mcg6_reader.specs.Reads.{ReadsGave, TellsRead}

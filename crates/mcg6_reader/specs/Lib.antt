@@ -5,4 +5,5 @@ pub mod Told
 pub mod Lists
 pub mod Endings
 pub mod Streams
+pub mod Reads
 pub mod Common

@@ -1,7 +1,7 @@
 //! Reading a list and processing its lines.
 ghost use Rattle.std.specs.Prelude.{◌≡◌, ◌≢◌, ◌≤◌, ◌<◌, ◌++◌, ℕ, List, OnOk, IfErr, Some, length};
 ghost use Rattle.outside.specs.Common.{Rose, most_line};
-ghost use Rattle.mcg6_reader.specs.Common.{HasNoFeed, lines_of, first_place, Added, Appended, GivesOutput, Reported, Reports, ReportsWith, ToldThrough, StopsWith, TellsList, ReadsTold, Wrote, WroteUpTo, IsStream};
+ghost use Rattle.mcg6_reader.specs.Common.{HasNoFeed, lines_of, first_place, Added, Appended, GivesOutput, Reported, Reports, ReportsWith, ToldThrough, StopsWith, TellsList, TellsRead, ReadsTold, Wrote, WroteUpTo, IsStream};
 
 use crate::ending::{BadLine, Ending, ListStop};
 use crate::listing::{Listing, add_end, add_piece};
@@ -112,6 +112,9 @@ fn tell_through<T: LineTeller, S: Source, K: Sink>(
     ensures tells { TellsList (T.tells teller.now) (T.bad teller.now) (T.lacks teller.now)
         (Reports (T.skips teller.now)) result (S.left source.old) (K.written sink.old)
         (K.written sink.new) skipped.old.items skipped.new.items }
+    ensures reads { TellsRead (T.tells teller.now) (T.bad teller.now) (T.lacks teller.now)
+        (Reports (T.skips teller.now)) S.reads result source.old source.new (K.written sink.old)
+        (K.written sink.new) skipped.old.items skipped.new.items }
     ensures torn { result ≡ Ending.ReadFault
         → Appended (ReadsTold (T.tells teller.now) (S.left source.old) (S.left source.new))
         (K.written sink.old) (K.written sink.new) }
@@ -148,7 +151,7 @@ fn tell_through<T: LineTeller, S: Source, K: Sink>(
 /// Takes memory for a piece, a line, the outputs of the lines of a piece, and the reports on
 /// skipped lines. If memory runs out, or there are more lines or reads than a u64 counts, it ends
 /// with `Memory`.
-#[tactic(auto, using(crate::proofs::Readings::untouched, crate::proofs::LeftBytes::told_list, crate::proofs::LeftBytes::reported_list, crate::proofs::Stages::unread))]
+#[tactic(auto, using(crate::proofs::Readings::untouched, crate::proofs::ReadBytes::read_nothing, crate::proofs::LeftBytes::told_list, crate::proofs::LeftBytes::reported_list, crate::proofs::Stages::unread))]
 pub fn tell_all<T: LineTeller, S: Source, K: Sink>(
     alloc: Global,
     teller: &T,
@@ -174,6 +177,10 @@ pub fn tell_all<T: LineTeller, S: Source, K: Sink>(
     // lines of some list.
     ensures tells { TellsList (T.tells teller.now) (T.bad teller.now) (T.lacks teller.now)
         (Reports (T.skips teller.now)) result (S.left source.old) (K.written sink.old)
+        (K.written sink.new) skipped.old.items skipped.new.items }
+    // Whatever the source makes known, they are those of the lines of what its reads returned.
+    ensures reads { TellsRead (T.tells teller.now) (T.bad teller.now) (T.lacks teller.now)
+        (Reports (T.skips teller.now)) S.reads result source.old source.new (K.written sink.old)
         (K.written sink.new) skipped.old.items skipped.new.items }
     // If the source fails, each complete line of what was read is processed and written.
     ensures torn { result ≡ Ending.ReadFault

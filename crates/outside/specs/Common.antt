@@ -11,5 +11,5 @@ pub use Rattle.outside.specs.MemSource.{SourceState, size_for, portion, bytes_gi
 pub use Rattle.outside.specs.StoredFile.{named_files}
 pub use Rattle.outside.specs.DirShelf.{OpenState, given_after, CountsFault, IsOpened}
 pub use Rattle.outside.specs.OutSink.{PrintState, HasPrinted}
-pub use Rattle.outside.specs.InSource.{ReaderState, ReadState, read_after, HasTaken}
+pub use Rattle.outside.specs.InSource.{name_in, ReaderState, ReadState, read_after, HasTaken}
 pub use Rattle.outside.specs.LineSink.{LineState, HasBegun, HasSaid}

@@ -1,8 +1,14 @@
 -- A file of a runtime, or its standard input, as its users see it.
--- Stated by: outside.
-use Rattle.std.specs.Prelude.{◌≡◌, ℕ, List, ◌++◌, Option, Some, None}
+-- Stated by: outside. Used by: mcg6_encoder.
+use Rattle.std.specs.Prelude.{◌≡◌, ℕ, List, [], ◌∷◌, ◌++◌, Option, Some, None}
 use Rattle.outside.specs.Faults.{MayCount}
+use Rattle.outside.specs.Shelf.{NamedFile}
 use Rattle.outside.specs.declared.explain.FailureReason.{FailureReason}
+
+-- the name that was opened, if there is one
+abbrev pub name_in : List NamedFile → Option (List ℕ)
+name_in [] = None
+name_in (file ∷ files) = Some file.0
 
 -- the name that was opened, none for standard input, and the bytes that were read, in order
 pub record ReaderState : Type 0 where

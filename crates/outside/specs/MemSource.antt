@@ -1,5 +1,5 @@
 -- A source in memory as its users see it.
--- Stated by: outside.
+-- Stated by: outside. Used by: mcg6_reader, mcg6_encoder.
 use Rattle.std.specs.Prelude.{◌≡◌, ℕ, ◌-◌, ◌^◌, List, [], ◌++◌, length, min, max, slice_index_or, Option, Some, None}
 use Rattle.outside.specs.Faults.{MayCount, next_call}
 

@@ -77,42 +77,45 @@ enum Opened<F: Drop, I: Drop> {
 /// A file that a runtime opened by its name, or its standard input, and the bytes that it gave.
 ///
 /// A contract sees it as a `ReaderState`: the name that was opened, none for standard input, and
-/// these bytes.
+/// these bytes. The name is a trace as well: it takes no memory.
 #[derive(Drop)]
-pub struct TracedReader<'a, R: Files + Input> {
-    name: Option<&'a str>,
+pub struct TracedReader<R: Files + Input> {
     opened: Opened<R::File, R::Reader>,
+    named: Given,
     read: Printed,
 }
 
-impl<'a, R: Files + Input> Model for TracedReader<'a, R> {
-    ghost use Rattle.std.specs.Option.{option_map};
-    ghost use Rattle.outside.specs.InSource.{ReaderState};
+impl<R: Files + Input> Model for TracedReader<R> {
+    ghost use Rattle.outside.specs.InSource.{ReaderState, name_in};
 
     ghost Value = { ReaderState };
 
     ghost view = { λ reader. record {
-      name = option_map (λ name. name.now) reader.name;
+      name = name_in reader.named.files;
       read = reader.read.bytes;
     } };
 }
 
-impl<'a, R: Files + Input> TracedReader<'a, R> {
+impl<R: Files + Input> TracedReader<R> {
     /// Opens the file of that name, or with none the standard input. If the file is not opened, each
     /// read fails. Takes no memory.
-    pub fn open(runtime: &R, name: Option<&'a str>) -> TracedReader<'a, R>
+    pub fn open(runtime: &R, name: Option<&str>) -> TracedReader<R>
         ensures { result ≡ record { name = option_map (λ name. name.now) name.entry; read = [] } }
     {
+        let mut named = Given::new();
         let opened = match name {
             None => Opened::Input(runtime.reader()),
-            Some(name) => match fs::open(runtime, name) {
-                Ok(file) => Opened::File(file),
-                Err(error) => Opened::Nothing(reason_unopened(runtime, name, &error)),
-            },
+            Some(name) => {
+                named.note(name.as_bytes(), &[]);
+                match fs::open(runtime, name) {
+                    Ok(file) => Opened::File(file),
+                    Err(error) => Opened::Nothing(reason_unopened(runtime, name, &error)),
+                }
+            }
         };
         TracedReader {
-            name,
             opened,
+            named,
             read: Printed::new(),
         }
     }

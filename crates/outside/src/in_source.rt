@@ -14,13 +14,13 @@ use std::rt::Files;
 /// A contract sees it as a `ReadState`: the name that was opened, these bytes, the count of errors,
 /// which saturates at the largest u64, and why the last read that failed did.
 #[derive(Drop)]
-pub struct InSource<'a, R: Files + Input> {
-    reader: TracedReader<'a, R>,
+pub struct InSource<R: Files + Input> {
+    reader: TracedReader<R>,
     faults: u64,
     reason: Option<FailureReason>,
 }
 
-impl<'a, R: Files + Input> Model for InSource<'a, R> {
+impl<R: Files + Input> Model for InSource<R> {
     ghost use Rattle.outside.specs.InSource.{ReadState};
 
     ghost Value = { ReadState };
@@ -33,12 +33,12 @@ impl<'a, R: Files + Input> Model for InSource<'a, R> {
     } };
 }
 
-impl<'a, R: Files + Input> InSource<'a, R> {
+impl<R: Files + Input> InSource<R> {
     /// The source over this reader. Takes no memory.
-    pub fn new(reader: TracedReader<'a, R>) -> InSource<'a, R>
+    pub fn new(reader: TracedReader<R>) -> InSource<R>
         ensures { result ≡ record {
-          name = reader.entry.name;
-          read = reader.entry.read;
+          name = reader.name;
+          read = reader.read;
           faults = 0;
           reason = None;
         } }
@@ -51,7 +51,7 @@ impl<'a, R: Files + Input> InSource<'a, R> {
     }
 }
 
-impl<R: Files + Input> Source for InSource<'_, R> {
+impl<R: Files + Input> Source for InSource<R> {
     ghost left = { λ source. None };
 
     ghost faults = { λ source. source.faults };
@@ -80,7 +80,7 @@ impl<R: Files + Input> Source for InSource<'_, R> {
     }
 }
 
-impl<R: Files + Input> Inlet for InSource<'_, R> {
+impl<R: Files + Input> Inlet for InSource<R> {
     ghost reason = { λ source. source.reason };
 
     fn reason(&self) -> Option<FailureReason> {

@@ -1,10 +1,12 @@
 //! The tests.
 
 mod claims;
+mod covers;
 mod cuts;
 mod deciding;
 mod decompositions;
 mod ears;
+mod elp_cuts;
 mod graphs;
 mod matchings;
 mod of_barriers;
@@ -13,11 +15,15 @@ mod of_bricks;
 mod of_components;
 mod of_cubic_graphs;
 mod of_decompositions;
+mod of_deleted_edges;
 mod of_ears;
+mod of_elp_cuts;
 mod of_matchings;
 mod of_regular_graphs;
+mod of_search_tests;
 mod of_separating_cuts;
 mod of_sides;
+mod of_vertex_covers;
 mod pair_graph;
 mod rows;
 mod sets;

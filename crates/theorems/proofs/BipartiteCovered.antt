@@ -9,7 +9,9 @@ use Rattle.quick_kinds.proofs.from_matching_digraph.TightShores.{ends_within}
 use Rattle.two_ears.proofs.OppositeSides.{opposite}
 use Rattle.theorems.proofs.AddedEdges.{allowed_from, degrees_outside, ends_set}
 use Rattle.theorems.proofs.BrickFacts.{turned_cut}
-use Rattle.theorems.proofs.Marriages.{beside, matched_sides, near_beside, same_count, same_near, within_side}
+use Rattle.theorems.proofs.HallMatchings.{near_beside}
+use Rattle.theorems.proofs.Marriages.{matched_sides, same_count, same_near, within_side}
+use Rattle.theorems.proofs.Partners.{beside}
 use Rattle.theorems.proofs.Neighbourhoods.{edge_neighbour, near_side, neighbour_edge, surplus}
 use Rattle.theorems.proofs.TwoExtendable.{cut_from_ends}
 use Rattle.theorems.specs.Bipartite.{ArePairsMatched, HasSurplus}

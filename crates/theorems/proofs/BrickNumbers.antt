@@ -6,14 +6,14 @@ use Rattle.tree_check.proofs.from_counting.Common.{◌≡◌, ◌∙◌, ◌↔�
 use Rattle.bench_top.proofs.from_mcg6_lines.Counts.{same_counts}
 use Rattle.graph_core.proofs.Common.{complement_of-rises, mem-complement_of, complement-tight, singles-partition, IsCovered, Graph, IsBipartite, IsGraph, IsMultigraph, IsPartition, complement_of, singles, quotient}
 use Rattle.bench_top.specs.from_mcg6_lines.Standings.{IsCounted}
-use Rattle.tree_check.specs.from_tree_core.declared.tallies.Tally.{Tally}
+use Rattle.tree_core.specs.declared.tallies.Tally.{Tally}
 use Rattle.theorems.proofs.LeafKindLists.{HasSides, all-joined, all-separated, count-from_sides, kinds-in_order, sides-from_count, tally-exists, tally-sum}
 use Rattle.theorems.proofs.PartitionSides.{HasSideAt, bipartite-from_side, side-from_bipartite}
 use Rattle.theorems.proofs.PickedDerivations.{some-tree}
 use Rattle.theorems.proofs.QuotientCounts.{cut-counted, quotient-counts}
 use Rattle.theorems.proofs.SidesAcrossCuts.{shore-member, shore-merge, side-kept, sides-pasted}
 use Rattle.theorems.specs.Derivations.{IsCountedAt, both}
-use Rattle.tree_check.proofs.from_tree_core.Common.{few-leaves, kept-covers, kept-partition, merged-covers, merged-partition, root-covered, partitions-leaves, shore-cut, length-leaves_at, IsCutAt, IsDerivationAt, IsTightShore, kept_at, merged_at, leaves, leaves_at, Shape, cut, leaf, bipartite_from_singles, singles_from_bipartite}
+use Rattle.tree_core.proofs.Common.{few-leaves, kept-covers, kept-partition, merged-covers, merged-partition, root-covered, partitions-leaves, shore-cut, length-leaves_at, IsCutAt, IsDerivationAt, IsTightShore, kept_at, merged_at, leaves, leaves_at, Shape, cut, leaf, bipartite_from_singles, singles_from_bipartite}
 
 -- some derivation counts, and each other one counts the same
 pub one-count : (g : Graph) → IsGraph g → IsCovered g → (tally : Tally) × IsCounted g tally × ((other : Tally) → IsCounted g other → other ≡ tally)

@@ -17,9 +17,9 @@ use Rattle.rand_pcg.specs.Lcg.{increment_of, started}
 use Rattle.rand_pcg.specs.Pcg.{multiplier_64}
 use Rattle.report_text.proofs.CommentLines.{given_names-commented}
 use Rattle.report_text.proofs.Comments.{commented-none}
-use Rattle.tree_check.proofs.from_tree_core.Common.{IsDerivation, leaves, Shape, partitions-leaves}
+use Rattle.tree_core.proofs.Common.{IsDerivation, leaves, Shape, partitions-leaves}
 use Rattle.report_text.specs.Common.{IsCommented, derivation_text, ears_report_text, grown_text, with_names_text}
-use Rattle.tree_check.specs.from_tree_core.declared.tallies.Tally.{Tally}
+use Rattle.tree_core.specs.declared.tallies.Tally.{Tally}
 use Rattle.tree_check.specs.from_tight_cuts.Common.{Candidate}
 use Rattle.move_text.specs.from_tree_text.Common.{tree_text}
 use Rattle.bench_top.proofs.from_bench_outcomes.DerivationTexts.{told}

@@ -7,7 +7,7 @@ use Rattle.graph_core.proofs.Common.{Graph, IsCovered}
 use Rattle.graph_text.specs.Common.{NamedGraph, either_version}
 use Rattle.graph_core.proofs.from_line_text.ExactlyOne.{Stands-from_reading}
 use Rattle.graph_core.specs.from_line_text.Common.{reading_of}
-use Rattle.tree_check.proofs.from_tree_core.Common.{IsDerivation, Shape}
+use Rattle.tree_core.proofs.Common.{IsDerivation, Shape}
 use Rattle.move_text.specs.from_tree_text.Common.{tree_format}
 use Rattle.bench_tasks.specs.from_decomposer.Common.{NamedPicks, ScriptPicks, order_named}
 use Rattle.bench_tasks.specs.from_decomposer.declared.orders.NamedOrder.{NamedOrder}

@@ -3,7 +3,7 @@
 -- its kept side, and those not inside it one of its merged side.
 use Rattle.tree_check.proofs.from_counting.Common.{◌≡◌, ◌⊎◌, ◌↔◌, ℕ, zero, suc, ◌≤◌, Bool, true, false, not, ◌&&◌, List, [], ◌∷◌, filter, length, refl, sym, ap, arith, inl, inr, subst, and_parts, and_from, both_ways, cases_Bool, false_from_ne_true, all_in_true, true_all_in, Within, IsIn, is_subset, mem}
 use Rattle.graph_core.proofs.Common.{Apart, Below, IsCovered, Graph, IsGraph, singles}
-use Rattle.tree_check.proofs.from_tree_core.Common.{kept-length, merged-length, cut-shore, shore-cut, IsDerivation, IsDerivationAt, IsLeafAt, IsTightShore, kept_at, merged_at, Shape, cut, leaf, shores}
+use Rattle.tree_core.proofs.Common.{kept-length, merged-length, cut-shore, shore-cut, IsDerivation, IsDerivationAt, IsLeafAt, IsTightShore, kept_at, merged_at, Shape, cut, leaf, shores}
 use Rattle.tree_check.proofs.from_move_laws.BigShores.{Stage, big_cut, big_some}
 use Rattle.tree_check.proofs.from_move_laws.Rising.{bounds}
 use Rattle.tree_check.proofs.from_move_laws.SingleVertices.{singles_stage}

@@ -5,10 +5,10 @@ use Rattle.std.proofs.Common.{[], ◌≡◌, ◌∙◌, ℕ, zero, suc, ◌+◌,
 use Rattle.tree_check.proofs.from_counting.Common.{sum_by-append, sum_by-cons, AllByRecursion, Within}
 use Rattle.theorems.proofs.Quotients.{bipartite-or}
 use Rattle.graph_core.proofs.Common.{quotient_graph, Graph, IsBipartite, IsGraph, IsPartition, quotient}
-use Rattle.tree_check.proofs.from_tree_core.Common.{AreLeafKinds, IsLeafKind, IsTally, is_brick, tally_of}
-use Rattle.tree_check.specs.from_tree_core.declared.tallies.LeafKind.{LeafKind}
-use Rattle.tree_check.specs.from_tree_core.declared.tallies.LeafKind.TheVariants.{Brick, Brace}
-use Rattle.tree_check.specs.from_tree_core.declared.tallies.Tally.{Tally}
+use Rattle.tree_core.proofs.Common.{AreLeafKinds, IsLeafKind, IsTally, is_brick, tally_of}
+use Rattle.tree_core.specs.declared.tallies.LeafKind.{LeafKind}
+use Rattle.tree_core.specs.declared.tallies.LeafKind.TheVariants.{Brick, Brace}
+use Rattle.tree_core.specs.declared.tallies.Tally.{Tally}
 use Rattle.theorems.specs.Derivations.{both}
 
 -- the kinds of these leaves, item by item

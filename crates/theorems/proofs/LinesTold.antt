@@ -10,8 +10,8 @@ use Rattle.graph_core.specs.declared.verdict.Kind.{Kind}
 use Rattle.graph_core.specs.declared.verdict.Kind.TheVariants as kind
 use Rattle.separation_kit.proofs.SeparationFacts.{equivalent-none}
 use Rattle.bench_top.specs.from_leaf_kinds.LeafKinds.{IsKind}
-use Rattle.tree_check.proofs.from_tree_core.Common.{leaves, partitions-leaves}
-use Rattle.tree_check.specs.from_tree_core.declared.tallies.Tally.{Tally}
+use Rattle.tree_core.proofs.Common.{leaves, partitions-leaves}
+use Rattle.tree_core.specs.declared.tallies.Tally.{Tally}
 use Rattle.bench_tasks.specs.from_decomposer.Common.{NamedPicks}
 use Rattle.bench_tasks.specs.from_decomposer.declared.orders.NamedOrder.{NamedOrder}
 use Rattle.graph6_text.specs.Common.{outcome_of}

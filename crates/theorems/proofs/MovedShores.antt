@@ -4,9 +4,9 @@ use Rattle.tree_check.proofs.from_counting.Common.{◌≡◌, ℕ, Bool, true, f
 use Rattle.graph_core.proofs.Common.{complement_of}
 use Rattle.tree_check.proofs.MovesFit.{move-fits}
 use Rattle.tree_check.specs.Common.{HasShores}
-use Rattle.tree_check.proofs.from_tree_core.Common.{PlainMove, rotate_at, switch_at, inner_rest, is_proper, kept_if_greatest_comes, kept_if_greatest_stays, last_step, list_if, merged_if_greatest_comes, merged_if_greatest_stays, minus_list, move_result, outer_rest, parent_path, result_at, rotate_result_at, switch_result_at, union_list, Shape, leaf, cut, Fits}
-use Rattle.tree_check.specs.from_tree_core.declared.path.Side.{Side}
-use Rattle.tree_check.specs.from_tree_core.declared.path.Side.TheVariants.{Kept, Merged}
+use Rattle.tree_core.proofs.Common.{PlainMove, rotate_at, switch_at, inner_rest, is_proper, kept_if_greatest_comes, kept_if_greatest_stays, last_step, list_if, merged_if_greatest_comes, merged_if_greatest_stays, minus_list, move_result, outer_rest, parent_path, result_at, rotate_result_at, switch_result_at, union_list, Shape, leaf, cut, Fits}
+use Rattle.tree_core.specs.declared.path.Side.{Side}
+use Rattle.tree_core.specs.declared.path.Side.TheVariants.{Kept, Merged}
 use Rattle.move_text.specs.from_tree_text.Common.{ShoresRise}
 
 rises : (n : ℕ) (x y : List ℕ) → IsStrictlyIncreasing (union_list n x y)

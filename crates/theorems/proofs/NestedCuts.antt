@@ -3,7 +3,7 @@
 -- each cut below is nested with the shore that was merged.
 use Rattle.tree_check.proofs.from_counting.Common.{◌≡◌, ◌⊎◌, ℕ, ◌≤◌, Bool, true, false, not, ◌&&◌, List, length, refl, sym, ap, ◌∙◌, arith, inl, inr, subst, and_parts, both_ways, cases_Bool, false_from_ne_true, not-true, same_tests, mem-rising_list, rising_list-rises, same_rising_list, some_none, some_true, Within, count, mem, rising_list, Set, complement, minus, some}
 use Rattle.graph_core.proofs.Common.{block_count_congr, block_count_rest, tight_congr, tight_rest, union_rest, mem-complement_of, Apart, Below, block_count_new, inside_or_apart, Graph, AreBlocks, complement_of, merged, IsTightAt, block_count, blocks_in, IsNontrivial}
-use Rattle.tree_check.proofs.from_tree_core.Common.{kept_at, merged_at}
+use Rattle.tree_core.proofs.Common.{kept_at, merged_at}
 use Rattle.tree_check.proofs.from_move_laws.BigShores.{Big, Stage, big_merge, big_rest, big_some, big_y, rest_rest, stage_merged}
 use Rattle.tree_check.proofs.from_move_laws.CarriedCuts.{some_of}
 use Rattle.tree_check.proofs.from_move_laws.NestedShores.{stays_big}

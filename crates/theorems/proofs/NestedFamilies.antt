@@ -2,7 +2,7 @@
 -- sides of a cut have such families, these and the cut are one.
 use Rattle.tree_check.proofs.from_counting.Common.{ℕ, List, ◌∷◌, ◌++◌, refl, sym, inl, inr, subst, both_ways, IsIn, mem}
 use Rattle.graph_core.proofs.Common.{Graph}
-use Rattle.tree_check.proofs.from_tree_core.Common.{IsCutAt, IsDerivationAt, IsLeafAt, kept_at, merged_at, Shape, cut, leaf, shores}
+use Rattle.tree_core.proofs.Common.{IsCutAt, IsDerivationAt, IsLeafAt, kept_at, merged_at, Shape, cut, leaf, shores}
 use Rattle.tree_check.proofs.from_move_laws.BigShores.{Stage, big_cut, cut_big}
 use Rattle.theorems.proofs.ListMembers.{distinct_join, in_left, in_parts, in_right}
 use Rattle.theorems.proofs.NestedCuts.{CutAt, Nested, apart_up, kept_down, kept_stage, kept_up, merged_down, merged_stage, nested_self, nested_turned, over_or_below, over_up, same_shores}

@@ -14,7 +14,7 @@ use Rattle.graph_core.proofs.from_line_text.ExactlyOne.{Stands-from_reading}
 use Rattle.graph_core.specs.from_line_text.Common.{reading_of}
 use Rattle.report_text.specs.Common.{bad_input_text}
 use Rattle.tree_check.specs.Common.{HasShores}
-use Rattle.tree_check.proofs.from_tree_core.Common.{PlainMove, Shape}
+use Rattle.tree_core.proofs.Common.{PlainMove, Shape}
 use Rattle.move_text.proofs.from_tree_text.TreeRead.{tree_read}
 use Rattle.move_text.specs.from_tree_text.Common.{tree_format}
 use Rattle.bench_tasks.specs.from_decomposer.Common.{NamedPicks, ScriptPicks}

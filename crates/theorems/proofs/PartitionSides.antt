@@ -3,7 +3,7 @@
 -- vertex more on one side, so all edges that leave it leave it there.
 use Rattle.tree_check.proofs.from_counting.Common.{◌≡◌, ◌≢◌, ◌∙◌, ℕ, ◌<◌, Bool, true, false, not, ◌&&◌, ◌||◌, ◌==◌, List, length, inl, inr, sym, ap, arith, subst, subst₂, ne_eqb, and_from, and_parts, both_ways, cases_eq, not_not, count_congr, some_true, true_some, Within, count, Set, complement, meet, minus, some}
 use Rattle.graph_core.proofs.Common.{IsSide, IsCovered, Graph, IsBipartite, IsGraph, first_end, has_ends, in_cut, second_end, size, AreBlocks, contracted, place, blocks_adjacent, quotient, IsTightAt, IsUnion, blocks_in, at_place, at_rep, contracted-ends, contracted-graph, contracted-order, contracted-size, place_in, covered_perfect, has_ends-cases, has_ends-own}
-use Rattle.tree_check.proofs.from_tree_core.QuotientSides.{Parts, differ, differ-back, parted, parts_from_sides, sides_from_parts}
+use Rattle.tree_core.proofs.QuotientSides.{Parts, differ, differ-back, parted, parts_from_sides, sides_from_parts}
 use Rattle.quick_kinds.proofs.from_matching_digraph.Balance.{balance, leaves_right, none_right}
 
 -- c is one side at p: a union of blocks that each edge between two blocks leaves

@@ -10,7 +10,7 @@ use Rattle.graph_core.proofs.Common.{singles-partition, IsCovered, Graph, IsGrap
 use Rattle.theorems.specs.Derivations.{ChoosesPlaces, PicksChosen}
 use Rattle.tree_check.proofs.from_tight_cuts.PartitionCandidates.{found-at, none-at}
 use Rattle.tree_check.specs.from_tight_cuts.Common.{Candidate, candidates_at}
-use Rattle.tree_check.proofs.from_tree_core.Common.{blocks-below, kept-covers, kept-length, kept-partition, merged-covers, merged-length, merged-partition, root-covered, shore-cut, IsCutAt, IsDerivation, IsDerivationAt, IsLeafAt, IsTightShore, kept_at, merged_at, Shape, cut, cut_count, leaf}
+use Rattle.tree_core.proofs.Common.{blocks-below, kept-covers, kept-length, kept-partition, merged-covers, merged-length, merged-partition, root-covered, shore-cut, IsCutAt, IsDerivation, IsDerivationAt, IsLeafAt, IsTightShore, kept_at, merged_at, Shape, cut, cut_count, leaf}
 
 -- of each nonempty list, whatever the number, the rule picks a place of the list
 abbrev pub PicksSome : (List Candidate → ℕ → ℕ → Type 0) → Type 0

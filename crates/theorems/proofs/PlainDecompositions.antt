@@ -5,7 +5,7 @@ use Rattle.tree_check.proofs.from_counting.Common.{◌≡◌, ◌&&◌, ℕ, suc
 use Rattle.barrier_kit.proofs.Common.{even_order}
 use Rattle.definition_laws.proofs.BlockWords.{tight-words, words-tight}
 use Rattle.graph_core.proofs.Common.{contracted-graph, block_count_rest, covered_perfect, parity, edges-in-cut-at, Graph, inside, size, contracted, block_count, blocks_in}
-use Rattle.tree_check.proofs.from_tree_core.Common.{IsCutAt, IsDerivationAt, IsLeafAt, kept_at, merged_at, PlainLeafMap, leaf_at, map_at, Shape, cut, leaf}
+use Rattle.tree_core.proofs.Common.{IsCutAt, IsDerivationAt, IsLeafAt, kept_at, merged_at, PlainLeafMap, leaf_at, map_at, Shape, cut, leaf}
 use Rattle.tree_check.proofs.from_move_laws.BigShores.{Stage, cut_big}
 use Rattle.tree_check.specs.from_move_laws.Common.{IsPairing, image}
 use Rattle.theorems.proofs.NestedCuts.{CutAt, kept_stage, merged_stage}

@@ -9,9 +9,9 @@ use Rattle.theorems.proofs.Quotients.{bipartite-or, leaf-quotient}
 use Rattle.graph_core.proofs.Common.{at_rep, rep, rep_in, complement_of-rises, complement_of-rising_list, mem-complement_of, quotient_graph, quotient-order, quotient_edge, nontrivial-same, tight-same, complement-tight, length-singles, singles-partition, IsCovered, Graph, IsGraph, IsMultigraph, first_end, second_end, IsPartition, complement_of, merged, singles, quotient, IsTightAt, blocks_in, IsNontrivial}
 use Rattle.bench_top.proofs.from_mcg6_lines.SingleLeaves.{one_brace, one_brick}
 use Rattle.bench_top.specs.from_mcg6_lines.Standings.{IsCounted}
-use Rattle.tree_check.proofs.from_tree_core.Common.{IsTally, tally_of, IsCutAt, IsDerivationAt, IsLeafAt, IsTightShore, kept_at, merged_at, leaves_at, Shape, cut, leaf, kept-covers, kept-partition, merged-covers, merged-partition, root-covered, partitions-leaves_at, shore-cut, last-place}
-use Rattle.tree_check.specs.from_tree_core.declared.tallies.LeafKind.TheVariants.{Brick, Brace}
-use Rattle.tree_check.specs.from_tree_core.declared.tallies.Tally.{Tally}
+use Rattle.tree_core.proofs.Common.{IsTally, tally_of, IsCutAt, IsDerivationAt, IsLeafAt, IsTightShore, kept_at, merged_at, leaves_at, Shape, cut, leaf, kept-covers, kept-partition, merged-covers, merged-partition, root-covered, partitions-leaves_at, shore-cut, last-place}
+use Rattle.tree_core.specs.declared.tallies.LeafKind.TheVariants.{Brick, Brace}
+use Rattle.tree_core.specs.declared.tallies.Tally.{Tally}
 use Rattle.theorems.proofs.CoarserPartitions.{down, down-is, down-rises, mem-down, mem-down_at}
 use Rattle.theorems.proofs.CoarserQuotients.{merged-quotient}
 use Rattle.theorems.proofs.LeafKindLists.{one-tally, tallies-joined, tally-exists, tally-once}
@@ -20,7 +20,7 @@ use Rattle.theorems.proofs.SidesAcrossCuts.{shore-member}
 use Rattle.theorems.specs.Derivations.{IsCountedAt, both}
 
 -- the quotient has no loop
-loopless : (g : Graph) (p : List (List ℕ)) → IsGraph g → IsPartition g.order p → IsMultigraph (quotient g p)
+pub loopless : (g : Graph) (p : List (List ℕ)) → IsGraph g → IsPartition g.order p → IsMultigraph (quotient g p)
 loopless g p is pp = grind (arith, quotient_graph, quotient_edge, first_end, quotient, second_end)
 
 -- a leaf

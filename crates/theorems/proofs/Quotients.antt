@@ -4,7 +4,7 @@
 use Rattle.tree_check.proofs.from_counting.Common.{◌≡◌, ℕ, not, ◌&&◌, ◌||◌, List, length, sym, ap, ap₂, ◌∙◌, subst, inl, inr, ◌⊎◌, All, both_ways, choose_set, every_congr, every_true, true_every, Within, Set, every}
 use Rattle.report_text.proofs.from_contraction.QuotientLaws.{tight_at_down, tight_at_up}
 use Rattle.graph_core.proofs.Common.{at_rep, rep_place, quotient_graph, quotient-order, nontrivial-same, tight-same, IsCovered, Graph, IsBipartite, IsGraph, first_end, in_cut, second_end, size, AreBlocks, place, quotient, IsUnion, blocks_in, HasOnlyTrivialTightCuts, IsNontrivial}
-use Rattle.tree_check.proofs.from_tree_core.Common.{covered-leaves, partitions-leaves, uncut-leaves, IsDerivation, IsLeafAt, leaves, Shape}
+use Rattle.tree_core.proofs.Common.{covered-leaves, partitions-leaves, uncut-leaves, IsDerivation, IsLeafAt, leaves, Shape}
 use Rattle.theorems.specs.CutWords.{EndsInBrickOrBrace}
 
 module _ (g : Graph) (p : List (List ℕ)) (is : IsGraph g) (pp : AreBlocks g.order p) where

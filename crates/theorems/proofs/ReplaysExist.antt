@@ -10,12 +10,12 @@ use Rattle.tree_check.proofs.from_move_laws.Uniqueness.{compare_law, script_thro
 use Rattle.tree_check.specs.from_move_laws.Common.{IsProperScript}
 use Rattle.move_text.proofs.MovesReadBack.{Stands-moves_text}
 use Rattle.move_text.specs.Common.{move_format, SetsRise, moves_text}
-use Rattle.tree_check.proofs.from_tree_core.Common.{few-nodes, leaf_count-cuts, node_count-cuts, IsDerivation, kept_at, merged_at, BlocksAt, IsProper, PlainMove, TurnsThrough, move_result, result_at, rotate_at, switch_at, switch_result_at, Shape, cut, leaf, leaf_count}
+use Rattle.tree_core.proofs.Common.{few-nodes, leaf_count-cuts, node_count-cuts, IsDerivation, kept_at, merged_at, BlocksAt, IsProper, PlainMove, TurnsThrough, move_result, result_at, rotate_at, switch_at, switch_result_at, Shape, cut, leaf, leaf_count}
 use Rattle.report_text.specs.Common.{refused_move_text, replayed_text, script_report_text, stuck_text}
 use Rattle.tree_check.proofs.FirstRefusals.{derived-or_refused}
 use Rattle.tree_check.specs.Common.{HasShores, Why, why_number, IsRefusedMoveAt, IsStuckAt}
-use Rattle.tree_check.specs.from_tree_core.declared.path.Side.{Side}
-use Rattle.tree_check.specs.from_tree_core.declared.path.Side.TheVariants.{Kept, Merged}
+use Rattle.tree_core.specs.declared.path.Side.{Side}
+use Rattle.tree_core.specs.declared.path.Side.TheVariants.{Kept, Merged}
 use Rattle.move_text.specs.from_tree_text.Common.{tree_text}
 use Rattle.bench_top.specs.from_bench_outcomes.Common.{shown_of, IsScript, ScriptGives, Scripted, MovesGive, ReplayGives}
 use Rattle.bench_top.specs.from_bench_outcomes.declared.status.Status.{Status}

@@ -14,7 +14,7 @@ use Rattle.tree_check.proofs.from_move_laws.SingleVertices.{singles_stage}
 use Rattle.tree_check.proofs.from_move_laws.Uniqueness.{compare_law, script_through}
 use Rattle.tree_check.proofs.FirstRefusals.{derived-or_refused}
 use Rattle.tree_check.specs.Common.{HasShores, IsRefused, Why, why_number}
-use Rattle.tree_check.proofs.from_tree_core.Common.{partitions-leaves, IsDerivation, script_maps, leaves, Shape}
+use Rattle.tree_core.proofs.Common.{partitions-leaves, IsDerivation, script_maps, leaves, Shape}
 use Rattle.report_text.specs.Common.{pairing_text, ear_judgement_text, judgement_text, verdict_text}
 use Rattle.report_text.specs.declared.ear_judgements.EarLine.TheVariants as ear_line
 use Rattle.report_text.specs.declared.judgements.TreeLine.TheVariants as line

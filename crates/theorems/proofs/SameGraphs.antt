@@ -2,7 +2,7 @@
 -- isomorphic; and along a bijection one counts alike.
 use Rattle.tree_check.proofs.from_counting.Common.{◌≡◌, ℕ, zero, suc, ◌+◌, ◌*◌, ◌-◌, ◌≤◌, ◌<◌, Bool, true, false, cond, ◌==◌, ◌&&◌, ◌||◌, not, refl, sym, ap, ◌∙◌, arith, eq-eqb, eqb-true, List, [], ◌∷◌, length, subst, inl, inr, count_by, slice_index_or, sum_by-cons, and_from, and_parts, bit-and, both_ways, cases_Bool, cases_order, count_le_one, count_of_one, every_congr, every_true, member_count, not-true, same_tests, some_set_found, some_set_none, some_true, total-first, total_congr, total_mul, total_ones, total_swap, true_every, true_some, Respects, Within, bit, count, every, some, Set, none}
 use Rattle.graph_core.proofs.Common.{adjacent-edge, adjacent_from, edge_of_pair, has_ends-cases, has_ends-own, has_ends-back, quotient-order, quotient_edge, Graph, IsBipartite, IsGraph, adjacent, blocks_adjacent, first_end, has_ends, in_cut, quotient, second_end, size}
-use Rattle.tree_check.proofs.from_tree_core.QuotientSides.{adjacent_back}
+use Rattle.tree_core.proofs.QuotientSides.{adjacent_back}
 use Rattle.theorems.specs.TightCuts.{IsBijection, IsIsomorphism, IsSameGraph, is_two_sided}
 
 -- the vertices of the quotient are adjacent where the blocks are

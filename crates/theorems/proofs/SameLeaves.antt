@@ -1,12 +1,18 @@
 -- Lovász's uniqueness theorem: the pairing of the leaves of two tight cut decompositions, said of
 -- their quotients, and what it counts.
-use Rattle.tree_check.proofs.from_counting.Common.{◌≡◌, ℕ, ◌-◌, Bool, ◌==◌, ◌&&◌, sym, ap, ap₂, ◌∙◌, arith, List, [], length, count_by, Within}
-use Rattle.graph_core.proofs.Common.{quotient_graph, Graph, IsGraph, quotient}
+use Rattle.tree_check.proofs.from_counting.Common.{◌≡◌, ℕ, ◌-◌, Bool, ◌==◌, ◌&&◌, refl, sym, inl, ap, ap₂, ◌∙◌, arith, List, [], length, count_by, Within}
+use Rattle.graph_core.proofs.Common.{has_ends-cases, quotient_graph, Graph, IsGraph, IsMultigraph, IsSimple, first_end, second_end, quotient}
+use Rattle.report_text.proofs.from_contraction.ProjectedMatchings.{one-edge}
 use Rattle.tree_check.proofs.from_move_laws.Uniqueness.{pairing_law}
-use Rattle.tree_check.proofs.from_tree_core.Common.{leaf_count-cuts, length-leaves_at, partitions-leaves, IsDerivation, cut_count, leaf_at, leaves, Shape}
+use Rattle.tree_core.proofs.Common.{leaf_count-cuts, length-leaves_at, partitions-leaves, IsDerivation, cut_count, leaf_at, leaves, Shape}
 use Rattle.theorems.proofs.PlainDecompositions.{pairing-words}
+use Rattle.theorems.proofs.QuotientCounts.{loopless}
 use Rattle.theorems.proofs.SameGraphs.{count_along, count_places, same-isomorphism, same_length, same_sides}
 use Rattle.theorems.specs.TightCuts.{IsBijection, IsIsomorphism, PairsLeaves, RespectsIsomorphism, is_two_sided}
+
+-- a quotient has at most one edge between two blocks
+simple_quotient : (g : Graph) (p : List (List ℕ)) → IsSimple (quotient g p)
+simple_quotient g p e f we wf h = one-edge g p e f (first_end (quotient g p) e) (second_end (quotient g p) e) we wf (inl (refl, refl)) (has_ends-cases (quotient g p) (first_end (quotient g p) e) (second_end (quotient g p) e) f h)
 
 module _ (g : Graph) (s t : Shape) (is : IsGraph g) (ds : IsDerivation g s) (dt : IsDerivation g t) where
   pub paired_leaves : (partner : ℕ → ℕ) × (blocks : ℕ → ℕ → ℕ) × PairsLeaves g (leaves g.order s) (leaves g.order t) partner blocks
@@ -42,6 +48,9 @@ module _ (g : Graph) (s t : Shape) (is : IsGraph g) (ds : IsDerivation g s) (dt 
       ∙ count_along (length ps) (length qs) partner pairs.pairs (λ i. p (leaf_at ps i)) (λ i. p (leaf_at qs i)) same
       ∙ sym (count_places p qs [])
 
+  leaf_multigraph : (r : Shape) → IsDerivation g r → (i : ℕ) → Within (length (leaves g.order r)) i → IsMultigraph (quotient g (leaf_at (leaves g.order r) i))
+  leaf_multigraph r dr i w = loopless g (leaf_at (leaves g.order r) i) is (partitions-leaves g r dr (i - 1) [] (let a = w.0 in let b = w.1 in omega arith))
+
   leaf_graph : (r : Shape) → IsDerivation g r → (i : ℕ) → Within (length (leaves g.order r)) i → IsGraph (quotient g (leaf_at (leaves g.order r) i))
   leaf_graph r dr i w = quotient_graph g (leaf_at (leaves g.order r) i) is (partitions-leaves g r dr (i - 1) [] (let a = w.0 in let b = w.1 in omega arith)).partition
 
@@ -51,7 +60,9 @@ module _ (g : Graph) (s t : Shape) (is : IsGraph g) (ds : IsDerivation g s) (dt 
   pub same_tests_counted : (test : Graph → Bool) → RespectsIsomorphism test →
       count_by (λ p. test (quotient g p)) (leaves g.order s) ≡ count_by (λ p. test (quotient g p)) (leaves g.order t)
   same_tests_counted test respects = counted (λ p. test (quotient g p)) (λ i w.
-      respects (quotient g (leaf_at ps i)) (quotient g (leaf_at qs (partner i))) (paired_leaves.1 i) (leaf_graph s ds i w) (leaf_graph t dt (partner i) (pairs.pairs.within i w)) (isomorphic i w))
+      let v = pairs.pairs.within i w in
+      respects (quotient g (leaf_at ps i)) (quotient g (leaf_at qs (partner i))) (paired_leaves.1 i)
+      (leaf_multigraph s ds i w) (leaf_multigraph t dt (partner i) v) (simple_quotient g (leaf_at ps i)) (simple_quotient g (leaf_at qs (partner i))) (isomorphic i w))
 
   pub same_orders : (k : ℕ) → count_by (λ p. length p == k) (leaves g.order s) ≡ count_by (λ p. length p == k) (leaves g.order t)
   same_orders k = counted (λ p. length p == k) (λ i w. ap (λ n. n == k) (same_order i w))

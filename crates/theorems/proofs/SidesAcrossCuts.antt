@@ -4,7 +4,7 @@
 use Rattle.tree_check.proofs.from_counting.Common.{◌≡◌, ◌≢◌, ◌∙◌, ℕ, Bool, true, false, cond, not, ◌||◌, List, refl, sym, ap, ap₂, arith, both_ways, mem-within, member-of_set, Within, IsRisingIn, mem, Set, complement}
 use Rattle.report_text.proofs.from_contraction.QuotientLaws.{covered_down}
 use Rattle.graph_core.proofs.Common.{Some, alike_down, alike_in, alike_up, closed_up, merge_of, same_side, shore-some, IsCovered, Graph, IsGraph, first_end, in_cut, second_end, size, AreBlocks, IsMerge, merged, place, quotient, IsTightAt, IsUnion}
-use Rattle.tree_check.proofs.from_tree_core.QuotientSides.{differ, differ-back}
+use Rattle.tree_core.proofs.QuotientSides.{differ, differ-back}
 use Rattle.theorems.proofs.PartitionSides.{HasSideAt, IsSideAt, LeavesFrom, other-side_at, side-chosen}
 
 -- sides below a cut

@@ -17,7 +17,7 @@ use Rattle.graph_core.specs.from_line_text.Common.{Stands}
 use Rattle.tree_check.proofs.from_move_laws.SingleVertices.{singles_stage}
 use Rattle.report_text.specs.declared.structures.Structure.{Structure}
 use Rattle.tree_check.specs.from_tight_cuts.Common.{Candidate}
-use Rattle.tree_check.proofs.from_tree_core.Common.{tight-shores, IsDerivation, leaves, Shape}
+use Rattle.tree_core.proofs.Common.{tight-shores, IsDerivation, leaves, Shape}
 use Rattle.bench_tasks.specs.from_decomposer.Common.{order_named}
 use Rattle.bench_tasks.specs.Common.{OnTrees, decompose_in, All, Loaded, and_then, graph_file, loaded_as, on_picks, on_trees, pick_file, picks_given, trees_given, Task}
 use Rattle.bench_tasks.specs.Tasks as task
@@ -102,7 +102,7 @@ told-kind files graph named status output held cov gives =
         told = s.1;
         brace = brace-kind named.graph s.0.kind s.2.kind;
         brick = k;
-        solid = (
+        bicritical = (
           (λ e. let q = k.0 e in let b = (brick_or_not named.graph is cov q.0).0 q.1 in (q.0, b.0, b.1)),
           (λ q. k.1 (q.0, (brick_or_not named.graph is cov q.0).1 (q.1, q.2))),
         );

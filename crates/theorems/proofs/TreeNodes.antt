@@ -1,9 +1,9 @@
 -- The paths to the nodes of a tree, listed down the tree: first the path that ends at the root,
 -- then those that go to `kept`, and then those that go to `merged`.
 use Rattle.tree_check.proofs.from_counting.Common.{◌≡◌, ℕ, ◌+◌, List, [], ◌∷◌, ◌++◌, length, map, refl, sym, ap, ap₂, ◌∙◌, subst, inl, inr, ◌⊎◌, arith, AllZip, length-append, length-map, IsIn}
-use Rattle.tree_check.proofs.from_tree_core.Common.{kept_at, merged_at, LeadsTo, leaves_at, Shape, cut, cut_count, leaf, leaf_count, node_count, shores}
-use Rattle.tree_check.specs.from_tree_core.declared.path.Side.{Side}
-use Rattle.tree_check.specs.from_tree_core.declared.path.Side.TheVariants.{Kept, Merged}
+use Rattle.tree_core.proofs.Common.{kept_at, merged_at, LeadsTo, leaves_at, Shape, cut, cut_count, leaf, leaf_count, node_count, shores}
+use Rattle.tree_core.specs.declared.path.Side.{Side}
+use Rattle.tree_core.specs.declared.path.Side.TheVariants.{Kept, Merged}
 use Rattle.theorems.specs.Preorder.{AreInPreorder, IsEarlier, ListsPaths}
 
 -- an item of two lists in a row

@@ -1,13 +1,17 @@
--- Bipartite graphs: surplus, pairs of vertices on opposite sides, sequences of single ears, and
--- the digraph of a perfect matching (Dulmage and Mendelsohn 1958; Hetyei 1964; Lovász and Plummer,
--- "Matching Theory", section 4.1).
+-- Bipartite graphs: vertex covers, surplus, pairs of vertices on opposite sides, sequences of
+-- single ears, and the digraph of a perfect matching (König 1931; Dulmage and Mendelsohn 1958;
+-- Hetyei 1964; Lovász and Plummer, "Matching Theory", sections 1.1 and 4.1).
 -- Stated by: theorems.
-use Rattle.std.specs.Prelude.{◌≡◌, ℕ, ◌+◌, ◌≤◌, List, [], ◌∷◌, true, false}
+use Rattle.std.specs.Prelude.{◌≡◌, ℕ, ◌+◌, ◌≤◌, ◌||◌, List, [], ◌∷◌, true, false}
 use Rattle.tree_check.specs.from_counting.Common.{Within, count, Set, pair_set}
 use Rattle.ear_text.specs.from_ear_core.Common.{IsEar, PlainEar, with_edges}
-use Rattle.graph_core.specs.Common.{Graph, HasPerfect, Walk, size}
+use Rattle.graph_core.specs.Common.{Graph, HasPerfect, Walk, first_end, second_end, size}
 use Rattle.quick_kinds.specs.from_matching_digraph.Digraph.{arc}
 use Rattle.theorems.specs.Braces.{neighbourhood}
+
+-- a vertex cover: each edge has an end in c
+abbrev pub IsVertexCover : Graph → Set → Type 0
+IsVertexCover g c = (e : ℕ) → Within (size g) e → (c (first_end g e) || c (second_end g e)) ≡ true
 
 -- |N(s)| ≥ |s| + 1 for each s ⊂ a with 1 ≤ |s| ≤ |a| − 1
 abbrev pub HasSurplus : Graph → Set → Type 0

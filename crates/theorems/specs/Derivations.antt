@@ -5,8 +5,8 @@
 -- Stated by: theorems.
 use Rattle.std.specs.Prelude.{◌≡◌, ℕ, ◌+◌, ◌<◌, List, length}
 use Rattle.graph_core.specs.Common.{Graph}
-use Rattle.tree_check.specs.from_tree_core.Common.{IsTally, IsDerivationAt, leaves_at, Shape}
-use Rattle.tree_check.specs.from_tree_core.declared.tallies.Tally.{Tally}
+use Rattle.tree_core.specs.Common.{IsTally, IsDerivationAt, leaves_at, Shape}
+use Rattle.tree_core.specs.declared.tallies.Tally.{Tally}
 use Rattle.tree_check.specs.from_tight_cuts.Common.{Candidate}
 
 -- a rule takes one place of each nonempty list of candidates, whatever the number of cuts before

@@ -10,7 +10,7 @@ use Rattle.tree_check.specs.from_counting.Common.{Lists, mem}
 use Rattle.graph_core.specs.Common.{InA, InC, InD, Graph, IsBipartite, size, singles, IsBicritical, IsCutPair, HasOnlyTrivialTightCuts, IsNontrivial, IsTight, IsWithinLimits}
 use Rattle.graph_core.specs.declared.verdict.Kind.TheVariants.{Brace, Brick, Composite}
 use Rattle.graph_text.specs.Common.{NamedGraph, AreNames, either_version}
-use Rattle.tree_check.specs.from_tree_core.Common.{IsDerivation, IsTightShore, PlainLeafMap, leaf_at, map_at, leaves, PlainMove, TurnsThrough, Shape, shores}
+use Rattle.tree_core.specs.Common.{IsDerivation, IsTightShore, PlainLeafMap, leaf_at, map_at, leaves, PlainMove, TurnsThrough, Shape, shores}
 use Rattle.move_text.specs.from_tree_text.Common.{tree_format}
 use Rattle.graph_core.specs.from_line_text.Common.{Stands, begin_with, lines_of as text_lines, numbers_of, words_of}
 use Rattle.tree_check.specs.from_move_laws.Common.{image}
@@ -85,7 +85,7 @@ pub record TellsKind (named : NamedGraph) (output : List ℕ) : Type 0 where
   pub told : lines.structure ≡ Some structure
   pub brace : (structure.kind ≡ Brace) ↔ (IsBipartite named.graph × HasOnlyTrivialTightCuts named.graph)
   pub brick : (structure.kind ≡ Brick) ↔ ((¬ IsBipartite named.graph) × HasOnlyTrivialTightCuts named.graph)
-  pub solid : (structure.kind ≡ Brick) ↔ ((¬ IsBipartite named.graph) × IsBicritical named.graph × ((u v : ℕ) → ¬ IsCutPair named.graph u v))
+  pub bicritical : (structure.kind ≡ Brick) ↔ ((¬ IsBipartite named.graph) × IsBicritical named.graph × ((u v : ℕ) → ¬ IsCutPair named.graph u v))
   pub composite : (x : List ℕ) → structure.kind ≡ Composite x → IsTight named.graph (mem x) × IsNontrivial named.graph.order (mem x)
   pub text : output ≡ with_given_names (analysis_text lines) named.names false
 

@@ -2,8 +2,8 @@
 -- Stated by: theorems.
 use Rattle.std.specs.Prelude.{List, [], ◌∷◌}
 use Rattle.tree_check.specs.from_counting.Common.{IsIn}
-use Rattle.tree_check.specs.from_tree_core.declared.path.Side.{Side}
-use Rattle.tree_check.specs.from_tree_core.declared.path.Side.TheVariants.{Kept, Merged}
+use Rattle.tree_core.specs.declared.path.Side.{Side}
+use Rattle.tree_core.specs.declared.path.Side.TheVariants.{Kept, Merged}
 
 -- a comes before b in preorder: b goes on where a ends, or a goes to `kept` and b to `merged`
 -- where they part

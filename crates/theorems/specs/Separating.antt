@@ -3,7 +3,7 @@
 use Rattle.std.specs.Prelude.{◌≡◌, ◌≢◌, ℕ, List, true}
 use Rattle.tree_check.specs.from_counting.Common.{Within, Set, none}
 use Rattle.graph_core.specs.Common.{Graph, IsCovered, IsPerfect, contracted, edges_in_cut, first_end, second_end, singles, size}
-use Rattle.tree_check.specs.from_tree_core.Common.{kept_at, merged_at}
+use Rattle.tree_core.specs.Common.{kept_at, merged_at}
 
 -- both contractions at the cut of x are matching covered: that in which the other vertices are one,
 -- and that in which the vertices of x are

@@ -4,8 +4,8 @@
 -- Stated by: theorems.
 use Rattle.std.specs.Prelude.{◌≡◌, ℕ, ◌≤◌, Bool, true, false, List, [], ◌∷◌, length}
 use Rattle.tree_check.specs.from_counting.Common.{Within, IsIn, mem, Set, complement, every, none, some_set}
-use Rattle.graph_core.specs.Common.{Graph, IsGraph, adjacent, edges_in_cut, in_cut, size, IsPerfectAt, blocks_adjacent, IsUnion, block_count}
-use Rattle.tree_check.specs.from_tree_core.Common.{IsTightShore, kept_at, merged_at, leaf_at, Shape, cut, leaf}
+use Rattle.graph_core.specs.Common.{Graph, IsMultigraph, IsSimple, adjacent, edges_in_cut, in_cut, size, IsPerfectAt, blocks_adjacent, IsUnion, block_count}
+use Rattle.tree_core.specs.Common.{IsTightShore, kept_at, merged_at, leaf_at, Shape, cut, leaf}
 
 -- the cuts of x and y cross: none of the four corners x ∩ y, x − y, y − x and the complement of
 -- x ∪ y in {1, .., n} is empty
@@ -65,9 +65,9 @@ pub record IsIsomorphism (g h : Graph) (f : ℕ → ℕ) : Type 0 where
   pub bijection : IsBijection g.order h.order f
   pub edges : (u v : ℕ) → Within g.order u → Within g.order v → adjacent g none u v ≡ adjacent h none (f u) (f v)
 
--- isomorphic graphs pass the test alike
+-- isomorphic simple graphs pass the test alike
 abbrev pub RespectsIsomorphism : (Graph → Bool) → Type 0
-RespectsIsomorphism test = (g h : Graph) (f : ℕ → ℕ) → IsGraph g → IsGraph h → IsIsomorphism g h f → test g ≡ test h
+RespectsIsomorphism test = (g h : Graph) (f : ℕ → ℕ) → IsMultigraph g → IsMultigraph h → IsSimple g → IsSimple h → IsIsomorphism g h f → test g ≡ test h
 
 -- bipartite, as a test: some vertex set has all edges in its cut
 abbrev pub is_two_sided : Graph → Bool

@@ -1,12 +1,12 @@
-//! Bipartite graphs: perfect matchings, and when they are matching covered.
+//! Bipartite graphs: matchings, vertex covers, and when they are matching covered.
 //!
-//! Sources: König (1916); Frobenius (1917); Hall, "On representatives of subsets" (1935); Hetyei
+//! Sources: König (1916, 1931); Frobenius (1917); Hall, "On representatives of subsets" (1935); Hetyei
 //! (1964); Lovász and Plummer, "Matching Theory" (1986), sections 1.1 and 4.1.
 ghost use Rattle.std.specs.Prelude.{◌≡◌, ℕ, ◌≤◌, ◌↔◌, true, List};
 ghost use Rattle.tree_check.specs.from_counting.Common.{Within, complement, count, everything, none, Set, singleton};
-ghost use Rattle.graph_core.specs.Common.{Graph, HasPerfect, IsConnected, IsCovered, IsMultigraph, IsPerfect, IsSide, size};
+ghost use Rattle.graph_core.specs.Common.{Graph, HasPerfect, IsConnected, IsCovered, IsGraph, IsMatching, IsMultigraph, IsPerfect, IsSide, degree, size};
 ghost use Rattle.ear_text.specs.from_ear_core.Common.{is_met, PlainEar};
-ghost use Rattle.theorems.specs.Bipartite.{AreEarsInTurn, ArePairsMatched, HasSurplus, IsStrong};
+ghost use Rattle.theorems.specs.Bipartite.{AreEarsInTurn, ArePairsMatched, HasSurplus, IsStrong, IsVertexCover};
 ghost use Rattle.theorems.specs.Braces.{neighbourhood};
 
 /// The marriage theorem: a bipartite graph with the sides A and B has a perfect matching if and
@@ -17,6 +17,29 @@ pub fn marriage_law()
         HasPerfect g none ↔ ((count g.order a ≡ count g.order (complement a)) ×
         ((s : Set) → ((v : ℕ) → Within g.order v → s v ≡ true → a v ≡ true) →
         count g.order s ≤ count g.order (neighbourhood g s))) }
+{}
+
+/// Hall's theorem: a bipartite graph with the sides A and B has a matching that meets each vertex
+/// of A if and only if |N(S)| ≥ |S| for each subset S of A, whatever the size of B (Hall 1935;
+/// Lovász and Plummer, "Matching Theory", section 1.1).
+pub fn hall_law()
+    ensures { (g : Graph) (a : Set) → IsMultigraph g → IsSide g a →
+        ((m : Set) × IsMatching g none m ×
+        ((v : ℕ) → Within g.order v → a v ≡ true → degree g m v ≡ 1)) ↔
+        ((s : Set) → ((v : ℕ) → Within g.order v → s v ≡ true → a v ≡ true) →
+        count g.order s ≤ count g.order (neighbourhood g s)) }
+{}
+
+/// König's theorem: no matching of a graph has more edges than a vertex cover has vertices; and a
+/// bipartite graph has a matching and a vertex cover of equal size. So there the size of a maximum
+/// matching is that of a minimum vertex cover (König 1931; Lovász and Plummer, "Matching Theory",
+/// section 1.1).
+pub fn koenig_law()
+    ensures below { (g : Graph) (m c : Set) → IsGraph g → IsMatching g none m →
+        IsVertexCover g c → count (size g) m ≤ count g.order c }
+    ensures equal { (g : Graph) (a : Set) → IsMultigraph g → IsSide g a →
+        (m c : Set) × IsMatching g none m × IsVertexCover g c ×
+        (count (size g) m ≡ count g.order c) }
 {}
 
 /// Hetyei's theorem: for a bipartite graph with the sides A and B and four vertices or more these

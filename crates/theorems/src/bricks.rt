@@ -1,12 +1,42 @@
-//! Bricks: where a nontrivial tight cut comes from, and which graphs are bricks.
+//! Bricks: barrier cuts and 2-separation cuts, where a nontrivial tight cut comes from, and which
+//! graphs are bricks.
 //!
-//! Source: Edmonds, Lovász and Pulleyblank, "Brick decompositions and the matching rank of
-//! graphs" (Combinatorica 2, 1982).
-ghost use Rattle.std.specs.Prelude.{ℕ, ◌≤◌, ◌⊎◌, ◌↔◌};
-ghost use Rattle.tree_check.specs.from_counting.Common.{Set};
-ghost use Rattle.graph_core.specs.Common.{IsCovered, Graph, IsBipartite, IsGraph, IsMultigraph, IsBarrier, IsBicritical, IsCutPair, HasOnlyTrivialTightCuts, IsNontrivial, IsTight, IsSide};
+//! Sources: Edmonds, Lovász and Pulleyblank, "Brick decompositions and the matching rank of
+//! graphs" (Combinatorica 2, 1982); Carvalho, Lucchesi and Murty, "On tight cuts in matching
+//! covered graphs" (Journal of Combinatorics, 2018).
+ghost use Rattle.std.specs.Prelude.{◌≡◌, ◌≢◌, ℕ, ◌+◌, ◌≤◌, ◌⊎◌, ◌↔◌, true, false, not};
+ghost use Rattle.tree_check.specs.from_counting.Common.{Within, count, is_odd, pair_set, Set, singleton, union, complement};
+ghost use Rattle.graph_core.specs.Common.{IsCovered, Graph, HasPerfect, IsBipartite, IsGraph, IsMultigraph, IsBarrier, IsBicritical, IsCutPair, HasOnlyTrivialTightCuts, IsNontrivial, IsTight, IsSide, first_end, in_cut, joined, second_end, size};
 ghost use Rattle.barrier_kit.specs.Common.{BarrierCut};
-ghost use Rattle.theorems.specs.Bricks.{IsBarrierCutOf, IsThreeConnected, SeparationCut};
+ghost use Rattle.theorems.specs.Bricks.{HoldsReason, IsBarrierCutOf, IsElpCut, IsThreeConnected, SeparationCut};
+ghost use Rattle.theorems.specs.TightCuts.{Cross};
+
+/// The two kinds of cuts of the theorem below are tight, in the textbooks' definitions. In a
+/// matching covered graph each component K of G - B, B a nonempty barrier, is a tight shore, which
+/// is nontrivial if and only if |B| ≥ 2 and |K| > 1. A cut pair {u, v} of it is either a barrier or
+/// a 2-separation: G - u - v has a perfect matching if and only if its components are even, and
+/// otherwise {u, v} is a barrier. For a cut pair {u, v} of any graph such that G - u - v has a
+/// perfect matching, each nonempty union of components of G - u - v, but not of all, is with u the
+/// shore of a nontrivial tight cut (Edmonds, Lovász and Pulleyblank 1982; Lucchesi and Murty,
+/// "Perfect Matchings").
+pub fn elp_cuts_law()
+    ensures barrier { (g : Graph) (s : Set) (a u : ℕ) → IsGraph g → IsCovered g → IsBarrier g s →
+        Within g.order a → s a ≡ true → Within g.order u → s u ≡ false →
+        IsTight g (joined g s u) × (IsNontrivial g.order (joined g s u) ↔
+        ((2 ≤ count g.order s) × (count g.order (joined g s u) ≢ 1))) }
+    ensures pair { (g : Graph) (u v : ℕ) → IsGraph g → IsCovered g → IsCutPair g u v →
+        HasPerfect g (pair_set u v) ↔
+        ((a : ℕ) → Within g.order a → pair_set u v a ≡ false →
+        is_odd (count g.order (joined g (pair_set u v) a)) ≡ false) }
+    ensures either { (g : Graph) (u v : ℕ) → IsGraph g → IsCovered g → IsCutPair g u v →
+        HasPerfect g (pair_set u v) ↔ (¬ (IsBarrier g (pair_set u v))) }
+    ensures separation { (g : Graph) (u v : ℕ) (m : Set) → IsGraph g → IsCutPair g u v →
+        HasPerfect g (pair_set u v) → 1 ≤ count g.order m → count g.order m + 3 ≤ g.order →
+        m u ≡ false → m v ≡ false →
+        ((e : ℕ) → Within (size g) e → pair_set u v (first_end g e) ≡ false →
+        pair_set u v (second_end g e) ≡ false → in_cut g m e ≡ false) →
+        IsTight g (union m (singleton u)) × IsNontrivial g.order (union m (singleton u)) }
+{}
 
 /// The theorem of Edmonds, Lovász and Pulleyblank: a matching covered graph with a nontrivial
 /// tight cut has a barrier cut or a 2-separation cut, which need not be the given one. In a
@@ -14,7 +44,10 @@ ghost use Rattle.theorems.specs.Bricks.{IsBarrierCutOf, IsThreeConnected, Separa
 /// barrier B. A graph is a brick if and only if it has at least four vertices, is bicritical and
 /// has no cut pair; a graph with at least four vertices has no cut pair if and only if it is
 /// 3-connected; so a graph is a brick if and only if it is 3-connected and bicritical (Edmonds,
-/// Lovász and Pulleyblank 1982; Lovász 1987).
+/// Lovász and Pulleyblank 1982; Lovász 1987). In a bicritical graph each nontrivial tight cut has
+/// an ELP cut that does not cross it, with a reason inside one of its shores; if it is the only
+/// nontrivial tight cut that does not cross it, it is an ELP cut itself (Carvalho, Lucchesi and
+/// Murty 2018).
 pub fn elp_law()
     ensures cut { (g : Graph) (x : Set) → IsMultigraph g → IsCovered g →
         IsTight g x → IsNontrivial g.order x →
@@ -30,4 +63,14 @@ pub fn elp_law()
     ensures three_connected { (g : Graph) → IsMultigraph g →
         (IsCovered g × (¬ (IsBipartite g)) × HasOnlyTrivialTightCuts g) ↔
         (IsThreeConnected g × IsBicritical g) }
+    ensures beside { (g : Graph) (x : Set) → IsGraph g → IsCovered g → IsBicritical g →
+        IsTight g x → IsNontrivial g.order x →
+        (y : Set) × IsElpCut g y × (¬ (Cross g.order x y)) }
+    ensures inside { (g : Graph) (x : Set) → IsGraph g → IsCovered g → IsBicritical g →
+        IsTight g x → IsNontrivial g.order x → HoldsReason g x ⊎ HoldsReason g (complement x) }
+    ensures alone { (g : Graph) (x : Set) → IsGraph g → IsCovered g → IsBicritical g →
+        IsTight g x → IsNontrivial g.order x →
+        ((y : Set) → IsTight g y → IsNontrivial g.order y → ¬ (Cross g.order x y) →
+        ((v : ℕ) → Within g.order v → x v ≡ y v) ⊎
+        ((v : ℕ) → Within g.order v → x v ≡ not (y v))) → IsElpCut g x }
 {}

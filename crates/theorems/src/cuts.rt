@@ -5,7 +5,7 @@
 ghost use Rattle.std.specs.Prelude.{ℕ, List, ◌↔◌, ◌≡◌, true, false};
 ghost use Rattle.tree_check.specs.from_counting.Common.{IsIn, Within, count, is_odd, Set, meet, minus, union};
 ghost use Rattle.graph_core.specs.Common.{IsCovered, Graph, IsGraph, IsTight, connects, size};
-ghost use Rattle.tree_check.specs.from_tree_core.Common.{IsDerivation, Shape, cut, shores};
+ghost use Rattle.tree_core.specs.Common.{IsDerivation, Shape, cut, shores};
 ghost use Rattle.theorems.specs.TightCuts.{AreDistinct, IsMaximalLaminar};
 
 /// Uncrossing: if X and Y are tight shores of a matching covered graph and |X ∩ Y| is odd, then

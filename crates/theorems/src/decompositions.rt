@@ -7,10 +7,10 @@ ghost use Rattle.bench_tasks.specs.from_decomposer.Common.{NamedPicks, ScriptPic
 ghost use Rattle.bench_tasks.specs.from_decomposer.declared.orders.NamedOrder.{NamedOrder};
 ghost use Rattle.graph_core.specs.Common.{IsCovered, Graph, IsBipartite, IsGraph, IsMultigraph, IsPartition, singles, quotient, AreBlocks, HasOnlyTrivialTightCuts};
 ghost use Rattle.bench_top.specs.from_mcg6_lines.Standings.{IsCounted};
-ghost use Rattle.tree_check.specs.from_tree_core.declared.tallies.Tally.{Tally};
+ghost use Rattle.tree_core.specs.declared.tallies.Tally.{Tally};
 ghost use Rattle.theorems.specs.Derivations.{ChoosesPlaces, IsCountedAt, PicksChosen, both};
 ghost use Rattle.tree_check.specs.from_tight_cuts.Common.{Candidate};
-ghost use Rattle.tree_check.specs.from_tree_core.Common.{IsDerivation, IsTightShore, kept_at, merged_at, Shape, cut, IsLeafAt, leaves, shores, leaf_at, cut_count};
+ghost use Rattle.tree_core.specs.Common.{IsDerivation, IsTightShore, kept_at, merged_at, Shape, cut, IsLeafAt, leaves, shores, leaf_at, cut_count};
 ghost use Rattle.theorems.specs.CutWords.{EndsInBrickOrBrace};
 ghost use Rattle.tree_check.specs.from_counting.Common.{Within};
 ghost use Rattle.theorems.specs.TightCuts.{IsBijection, IsIsomorphism, PairsLeaves, RespectsIsomorphism, is_two_sided};

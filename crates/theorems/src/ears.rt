@@ -41,12 +41,13 @@ pub fn ear_decomposition_law()
         IsUnrefinable g list → AllByRecursion (IsDisjoint g) list.steps }
 {}
 
-/// The two-ear theorem, in three forms. If a matching covered graph has a perfect matching without
-/// all vertices of some disjoint pairs, it has one without those of two of the pairs, or of one.
+/// Lemmas of the two-ear theorem, which is `ear_list_exists_law`. If a matching covered graph has a
+/// perfect matching without all vertices of some disjoint pairs, it has one without those of two of
+/// the pairs, or of one.
 /// If it stays matching covered with further edges, it does with one of them, or with two. A
 /// bipartite one has a perfect matching without any two vertices on opposite sides (Lovász and
 /// Plummer, "Matching Theory", section 5.4).
-pub fn two_ear_law()
+pub fn two_ear_lemmas_law()
     ensures pairs { (g : Graph) (ps : List (ℕ × ℕ)) → IsGraph g → IsCovered g → ps ≢ [] →
         AreDisjoint g.order ps → HasPerfect g (in_pairs ps) →
         (p : ℕ × ℕ) × (q : ℕ × ℕ) × IsIn p ps × IsIn q ps ×

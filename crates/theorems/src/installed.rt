@@ -5,7 +5,7 @@ ghost use Rattle.std.specs.Prelude.{◌≡◌, ◌++◌, ℕ, List, [], ◌∷�
 ghost use Rattle.bench_top.specs.from_outside.Common.{NamedFile, OpenState, PrintState};
 ghost use Rattle.graph_core.specs.Common.{IsCovered};
 ghost use Rattle.graph_text.specs.Common.{NamedGraph};
-ghost use Rattle.tree_check.specs.from_tree_core.Common.{IsDerivation, Shape};
+ghost use Rattle.tree_core.specs.Common.{IsDerivation, Shape};
 ghost use Rattle.bench_tasks.specs.Common.{Command, command_of};
 ghost use Rattle.bench_top.specs.from_bench_outcomes.Common.{IsSettled};
 ghost use Rattle.bench_top.specs.from_bench_outcomes.declared.status.Status.{Status};

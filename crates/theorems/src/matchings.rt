@@ -2,9 +2,9 @@
 //! and Edmonds.
 //!
 //! Source: Lovász and Plummer, "Matching Theory" (1986), chapter 3.
-ghost use Rattle.std.specs.Prelude.{◌≡◌, ℕ, ◌+◌, ◌≤◌, true, ◌↔◌};
-ghost use Rattle.tree_check.specs.from_counting.Common.{Within, count, Set, complement, none, everything, Outside, union};
-ghost use Rattle.graph_core.specs.Common.{Attains, component_count, Graph, HasEnds, IsGraph, edges_in_cut, size, IsMaximum, missed_count, HasPerfect, InD, IsConnected, IsMatching, odd_component_count};
+ghost use Rattle.std.specs.Prelude.{◌≡◌, ◌≢◌, ℕ, ◌+◌, ◌≤◌, true, ◌↔◌};
+ghost use Rattle.tree_check.specs.from_counting.Common.{Within, count, Set, complement, none, everything, Outside, singleton, union};
+ghost use Rattle.graph_core.specs.Common.{Attains, component_count, Graph, HasEnds, IsGraph, edges_in_cut, size, IsMaximum, missed_count, HasPerfect, InD, IsConnected, IsMatching, degree, odd_component_count};
 ghost use Rattle.theorems.specs.Matchings.{AreThreeSets, HasPerfectWithin, IsFactorCritical, MatchesAllButOne, MatchesWithin, component_in, parts_beside};
 
 /// Tutte's theorem: a graph has a perfect matching if and only if o(S), the number of odd
@@ -44,8 +44,9 @@ pub fn gallai_lemma_law()
 /// has a perfect matching, A is a set of Berge with the deficiency c(D) - |A|, c(D) being the
 /// number of components of G[D], and each maximum matching matches C in itself, all but one
 /// vertex of each component of G[D] in it, and A into different components of G[D]; each nonempty
-/// subset S of A has neighbours in at least |S| + 1 components of G[D]. Gallai 1964; Edmonds 1965;
-/// Lovász and Plummer, "Matching Theory", theorem 3.2.1.
+/// subset S of A has neighbours in at least |S| + 1 components of G[D]. The stability lemma: if v is
+/// in A, then D(G - v) = D, and a maximum matching of G - v has one edge less than one of G. Gallai
+/// 1964; Edmonds 1965; Lovász and Plummer, "Matching Theory", theorem 3.2.1 and lemma 3.2.2.
 pub fn gallai_edmonds_law()
     ensures sets { (g : Graph) → IsGraph g →
         (d : Set) × (a : Set) × (c : Set) × AreThreeSets g d a c }
@@ -72,4 +73,10 @@ pub fn gallai_edmonds_law()
     ensures surplus { (g : Graph) (d a c s : Set) → IsGraph g → AreThreeSets g d a c →
         ((v : ℕ) → Within g.order v → s v ≡ true → a v ≡ true) → 1 ≤ count g.order s →
         count g.order s + 1 ≤ count g.order (parts_beside g d s) }
+    ensures stable { (g : Graph) (d a c : Set) (v w : ℕ) → IsGraph g → AreThreeSets g d a c →
+        Within g.order v → a v ≡ true → Within g.order w → v ≢ w →
+        (d w ≡ true) ↔ ((m : Set) × IsMaximum g (singleton v) m × (degree g m w ≡ 0)) }
+    ensures one_less { (g : Graph) (d a c m k : Set) (v : ℕ) → IsGraph g →
+        AreThreeSets g d a c → Within g.order v → a v ≡ true → IsMaximum g none m →
+        IsMaximum g (singleton v) k → count (size g) k + 1 ≡ count (size g) m }
 {}

@@ -6,7 +6,7 @@ ghost use Rattle.tree_check.specs.from_counting.Common.{Within};
 ghost use Rattle.bench_top.specs.from_outside.Common.{NamedFile};
 ghost use Rattle.graph_core.specs.Common.{IsCovered, Graph, IsMultigraph, size};
 ghost use Rattle.graph_text.specs.Common.{NamedGraph};
-ghost use Rattle.tree_check.specs.from_tree_core.Common.{IsDerivation, PlainMove, Shape};
+ghost use Rattle.tree_core.specs.Common.{IsDerivation, PlainMove, Shape};
 ghost use Rattle.tree_check.specs.Common.{HasShores};
 ghost use Rattle.ear_text.specs.from_ear_core.Common.{PlainEars};
 ghost use Rattle.bench_tasks.specs.Common.{Command, command_of, Absent, All, graph_file, loaded, pick_file, trees_given, Task};

@@ -1,18 +1,39 @@
-//! Appendix: laws on the definitions of the program. The third part of the candidates, the nodes
-//! of a tree, and what two derivations count.
-ghost use Rattle.std.specs.Prelude.{◌≡◌, ℕ, true, Some, None, ◌↔◌, List, length};
-ghost use Rattle.tree_check.specs.from_counting.Common.{Within, Set};
-ghost use Rattle.graph_core.specs.Common.{Graph, IsGraph, size, singles};
-ghost use Rattle.tree_check.specs.from_tight_cuts.Common.{common_shore, first_separated, greater_end, is_separated, lesser_end, separates_tightly, SeparatesTightly};
+//! Appendix: laws on the definitions of the program. The fast tests and the list of candidates, its
+//! third part, the nodes of a tree, and what two derivations count.
+ghost use Rattle.std.specs.Prelude.{◌≡◌, ◌≢◌, ℕ, true, Some, None, ◌↔◌, List, [], length};
+ghost use Rattle.tree_check.specs.from_counting.Common.{Within, Set, complement, none};
+ghost use Rattle.graph_core.specs.Common.{Graph, IsBicritical, IsBipartite, IsCovered, IsCutPair, IsGraph, IsMultigraph, IsPerfect, IsSide, size, singles};
+ghost use Rattle.quick_kinds.specs.from_matching_digraph.Digraph.{Spans, arc, are_mates};
+ghost use Rattle.tree_check.specs.from_tight_cuts.Common.{candidates, common_shore, first_separated, greater_end, is_separated, lesser_end, separates_tightly, SeparatesTightly};
 ghost use Rattle.theorems.specs.CutWords.{IsFirstSeparated, IsSeparated};
 ghost use Rattle.std.specs.List.{AllZip};
-ghost use Rattle.tree_check.specs.from_tree_core.Common.{LeadsTo, leaves, Shape, cut, cut_count, leaf, leaf_count, node_count, shores};
-ghost use Rattle.tree_check.specs.from_tree_core.declared.path.Side.{Side};
+ghost use Rattle.tree_core.specs.Common.{LeadsTo, leaves, Shape, cut, cut_count, leaf, leaf_count, node_count, shores};
+ghost use Rattle.tree_core.specs.declared.path.Side.{Side};
 ghost use Rattle.theorems.specs.Preorder.{ListsPaths};
-ghost use Rattle.tree_check.specs.from_tree_core.declared.tallies.Tally.{Tally};
+ghost use Rattle.tree_core.specs.declared.tallies.Tally.{Tally};
 ghost use Rattle.bench_top.specs.from_mcg6_lines.Standings.{IsCounted};
 ghost use Rattle.bench_top.specs.from_mcg6_lines.Selecting.{HasProperty, LacksProperty};
 ghost use Rattle.bench_top.specs.from_mcg6_lines.declared.query.Property.{Property};
+
+/// The test for braces by reachability agrees with the complete search: a matching covered graph
+/// with the side x has no candidate for a tight cut if and only if, for a perfect matching m, each
+/// vertex a of x, its mate b and each further vertex r, walks in the digraph of m that begin no step
+/// at a lead from r to all vertices but b, and in that of the other side walks that begin no step at
+/// b lead from r to all but a (after Lovász and Plummer, "Matching Theory").
+pub fn brace_test_law()
+    ensures { (g : Graph) (x m : Set) → IsGraph g → IsCovered g → IsSide g x →
+        IsPerfect g none m → (candidates g ≡ []) ↔
+        ((a b r : ℕ) → x a ≡ true → are_mates g m a b ≡ true → Within g.order r → r ≢ a → r ≢ b →
+        Spans g.order (arc g x m) a r b × Spans g.order (arc g (complement x) m) b r a) }
+{}
+
+/// The test for bricks agrees with it too: a matching covered graph that is not bipartite has no
+/// candidate if and only if it is bicritical and has no cut pair (Edmonds, Lovász and Pulleyblank
+/// 1982).
+pub fn brick_test_law()
+    ensures { (g : Graph) → IsMultigraph g → IsCovered g → ¬ (IsBipartite g) →
+        (candidates g ≡ []) ↔ (IsBicritical g × ((u v : ℕ) → ¬ (IsCutPair g u v))) }
+{}
 
 /// The tests of the third part. A set separates two vertices x and y beside an edge from a to b
 /// exactly when it is a tight set with a and x and with neither b nor y. The pair is separated

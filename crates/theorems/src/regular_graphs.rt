@@ -1,11 +1,12 @@
 //! Perfect matchings and tight cuts of regular graphs.
 //!
 //! Sources: Petersen, "Die Theorie der regulären graphs" (1891); König (1916); Schönberger (1934);
-//! Edmonds (1965); Seymour, "On multi-colourings of cubic graphs, and conjectures of Fulkerson and
+//! Edmonds (1965); Plesník, "Connectivity of regular graphs and the existence of 1-factors" (1972);
+//! Seymour, "On multi-colourings of cubic graphs, and conjectures of Fulkerson and
 //! Tutte" (1979); Lovász and Plummer, "Matching Theory", chapter 7.
-ghost use Rattle.std.specs.Prelude.{◌≡◌, ◌≢◌, ℕ, ◌≤◌, ◌↔◌, ◌+◌, ◌⊎◌, true};
-ghost use Rattle.tree_check.specs.from_counting.Common.{Set, Within, count, is_odd};
-ghost use Rattle.graph_core.specs.Common.{IsConnected, IsCovered, Graph, IsMultigraph, HasOnlyTrivialTightCuts, IsNontrivial, IsTight, IsSide, Allowed, size};
+ghost use Rattle.std.specs.Prelude.{◌≡◌, ◌≢◌, ℕ, ◌≤◌, ◌↔◌, ◌+◌, ◌⊎◌, true, false};
+ghost use Rattle.tree_check.specs.from_counting.Common.{Set, Within, count, is_odd, none};
+ghost use Rattle.graph_core.specs.Common.{IsConnected, IsCovered, Graph, IsMultigraph, HasOnlyTrivialTightCuts, IsNontrivial, IsPerfect, IsTight, IsSide, Allowed, size};
 ghost use Rattle.bench_tasks.specs.from_grow_gen.Common.{IsCubic};
 ghost use Rattle.theorems.specs.RegularGraphs.{HasWideOddCuts, IsRegular, IsTwoEdgeConnected, cut_size};
 ghost use Rattle.theorems.specs.CutWords.{IsBrace, IsBrick};
@@ -17,7 +18,9 @@ ghost use Rattle.theorems.specs.CutWords.{IsBrace, IsBrick};
 /// than r edges in its cut. A bipartite r-regular graph is an r-graph (König 1916); for r ≥ 1 an
 /// odd set with r edges in its cut is tight there, so that it has no nontrivial tight cut if and
 /// only if no nontrivial odd set has r edges in its cut. A cubic graph is 2-edge-connected if and
-/// only if it is connected and a 3-graph.
+/// only if it is connected and a 3-graph. An r-graph has a perfect matching after fewer than r of
+/// its edges are deleted; and an (r - 1)-edge-connected r-regular graph with an even number of
+/// vertices is an r-graph, so this holds for it (Plesník 1972).
 pub fn regular_law()
     ensures allowed { (r : ℕ) (g : Graph) (e : ℕ) → IsMultigraph g → IsRegular r g →
         HasWideOddCuts r g → Within (size g) e → Allowed g e }
@@ -37,6 +40,14 @@ pub fn regular_law()
         is_odd (count g.order x) ≡ true → cut_size g x ≢ r) }
     ensures cubic { (g : Graph) → IsMultigraph g → IsCubic g →
         IsTwoEdgeConnected g ↔ (IsConnected g × HasWideOddCuts 3 g) }
+    ensures deleted { (r : ℕ) (g : Graph) (f : Set) → IsMultigraph g → IsRegular r g →
+        HasWideOddCuts r g → count (size g) f + 1 ≤ r →
+        (m : Set) × IsPerfect g none m ×
+        ((e : ℕ) → Within (size g) e → m e ≡ true → f e ≡ false) }
+    ensures connected { (r : ℕ) (g : Graph) → IsMultigraph g → IsRegular r g →
+        is_odd g.order ≡ false →
+        ((x : Set) (u v : ℕ) → Within g.order u → Within g.order v → x u ≡ true → x v ≡ false →
+        r ≤ cut_size g x + 1) → HasWideOddCuts r g }
 {}
 
 /// Cubic graphs: a 2-edge-connected cubic graph with at least two vertices is matching covered

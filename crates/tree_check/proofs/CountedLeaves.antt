@@ -2,9 +2,9 @@
 -- and those of the two trees below a cut add up, since their kinds stand one after the other.
 use Rattle.graph_core.proofs.from_counting.Common.{◌≡◌, ℕ, ◌+◌, Bool, List, [], ◌∷◌, ◌++◌, cond, ap, ◌∙◌, count_by, arith, sum_by-append, length-append}
 use Rattle.graph_core.proofs.Common.{Graph, quotient}
-use Rattle.move_laws.proofs.from_tree_core.Common.{kinds-both, kinds-one, length-leaves_at, IsKindOf, IsTally, Shape, is_brick, leaf_count, leaves_at, tally_of}
-use Rattle.move_laws.specs.from_tree_core.declared.tallies.LeafKind.{LeafKind}
-use Rattle.move_laws.specs.from_tree_core.declared.tallies.Tally.{Tally}
+use Rattle.tree_core.proofs.Common.{kinds-both, kinds-one, length-leaves_at, IsKindOf, IsTally, Shape, is_brick, leaf_count, leaves_at, tally_of}
+use Rattle.tree_core.specs.declared.tallies.LeafKind.{LeafKind}
+use Rattle.tree_core.specs.declared.tallies.Tally.{Tally}
 use Rattle.tree_check.specs.Common.{sum_of}
 
 -- how many items of two lists pass a test

@@ -10,7 +10,7 @@ use Rattle.move_laws.specs.from_contraction.Partition.{IsUnionAt, PartitionValue
 use Rattle.graph_core.proofs.Common.{blocks-singles, length-singles, singles-tight, contracted-graph, contracted-order, contracted-size, tight_from_cut, covered_perfect, tight_or_not, parity, quotient_graph, quotient-order, tight-same, edges-in-cut-at, IsCovered, Graph, IsGraph, edges_in_cut, first_end, in_cut, inside, second_end, size, IsPartition, IsPerfect, AreBlocks, contracted, lifted, quotient, singles, IsTightAt, IsUnion, block_count, blocks_in, IsNontrivial, IsTight}
 use Rattle.match_core.specs.Common.{MatchingValue, edges_of}
 use Rattle.tight_cuts.specs.Common.{CrossesTwice}
-use Rattle.move_laws.proofs.from_tree_core.Common.{as_many-singles, IsCutAt}
+use Rattle.tree_core.proofs.Common.{as_many-singles, IsCutAt}
 use Rattle.tree_check.specs.Common.{why_of, BreaksCut, CrossesAt, Why, not_blocks, even, trivial, not_tight, not_leaf, without_matching}
 use Rattle.tree_check.specs.declared.judgement.Why.{Why as StoredWhy}
 

@@ -3,7 +3,7 @@
 -- partitions again and their quotients are matching covered.
 use Rattle.graph_core.proofs.from_counting.Common.{◌≡◌, ◌⊎◌, ℕ, ◌+◌, List, refl, sym, ap, ◌∙◌, inl, inr, arith, mem}
 use Rattle.graph_core.proofs.Common.{singles-partition, IsCovered, Graph, IsGraph, IsPartition, singles, quotient}
-use Rattle.move_laws.proofs.from_tree_core.Common.{kept-covers, kept-partition, merged-covers, merged-partition, root-covered, IsDerivation, IsDerivationAt, kept_at, merged_at, Shape, leaf, cut, node_count}
+use Rattle.tree_core.proofs.Common.{kept-covers, kept-partition, merged-covers, merged-partition, root-covered, IsDerivation, IsDerivationAt, kept_at, merged_at, Shape, leaf, cut, node_count}
 use Rattle.tree_check.proofs.CutRules.{broken-not_cut, broken-once, cut-or_broken}
 use Rattle.tree_check.proofs.LeafRules.{broken-not_leaf, leaf-once, leaf-or_broken}
 use Rattle.tree_check.specs.Common.{HasShores, IsRefused, IsRefusedAt, Why, without_matching}

@@ -4,7 +4,7 @@ use Rattle.graph_core.proofs.from_counting.Common.{◌≡◌, ◌⊎◌, ℕ, Li
 use Rattle.graph_core.proofs.Common.{IsCovered, Graph, IsGraph, IsPartition, quotient, IsTightAt, blocks_in, IsNontrivial}
 use Rattle.tight_cuts.proofs.PartitionCandidates.{none-at}
 use Rattle.tight_cuts.specs.Common.{Candidate, first_shore, candidates_at}
-use Rattle.move_laws.proofs.from_tree_core.Common.{IsLeafAt}
+use Rattle.tree_core.proofs.Common.{IsLeafAt}
 use Rattle.tree_check.specs.Common.{BreaksLeaf, Why, not_blocks, even, trivial, not_tight, not_leaf, without_matching}
 
 module _ (g : Graph) (p : List (List ℕ)) (is : IsGraph g) (pp : IsPartition g.order p) (covered : IsCovered (quotient g p)) where

@@ -12,6 +12,5 @@ pub mod ReplaySteps
 pub mod ReplayAnswers
 -- Passed on to the crates above: from_NAME is all that the crate NAME has in its folder of this name.
 pub use Rattle.graph_core.proofs.from_counting as from_counting
-pub use Rattle.move_laws.proofs.from_tree_core as from_tree_core
 pub use Rattle.tight_cuts.proofs as from_tight_cuts
 pub use Rattle.move_laws.proofs as from_move_laws

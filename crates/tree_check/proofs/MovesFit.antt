@@ -3,9 +3,9 @@
 -- does not.
 use Rattle.graph_core.proofs.from_counting.Common.{◌≡◌, ℕ, ◌-◌, Bool, true, false, not, List, [], ◌∷◌, All, get_or, Option, Some, option_map, if◌then◌else◌, inl, inr, refl, sym, subst, arith, and_parts, both_ways, not-true, or_cases, none-some, same_Some, rising_only, mem-item, Within, is_subset, mem, minus, union}
 use Rattle.graph_core.proofs.Common.{complement_of}
-use Rattle.move_laws.proofs.from_tree_core.Common.{each-member, proper-within, proper_outside-within, PlainMove, inner_rest, is_proper, kept_if_greatest_stays, kept_if_greatest_comes, list_if, merged_if_greatest_stays, merged_if_greatest_comes, minus_list, move_result, outer_rest, result_at, rotate_result_at, switch_result_at, union_list, Shape, leaf, cut, Fits}
-use Rattle.move_laws.specs.from_tree_core.declared.path.Side.{Side}
-use Rattle.move_laws.specs.from_tree_core.declared.path.Side.TheVariants.{Kept, Merged}
+use Rattle.tree_core.proofs.Common.{each-member, proper-within, proper_outside-within, PlainMove, inner_rest, is_proper, kept_if_greatest_stays, kept_if_greatest_comes, list_if, merged_if_greatest_stays, merged_if_greatest_comes, minus_list, move_result, outer_rest, result_at, rotate_result_at, switch_result_at, union_list, Shape, leaf, cut, Fits}
+use Rattle.tree_core.specs.declared.path.Side.{Side}
+use Rattle.tree_core.specs.declared.path.Side.TheVariants.{Kept, Merged}
 
 -- all numbers lie below n
 abbrev IsBelow : ℕ → List ℕ → Type 0

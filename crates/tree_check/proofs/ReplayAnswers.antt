@@ -2,8 +2,8 @@
 -- result at most, so two replays go through the same trees, and a derivation has no refusal.
 use Rattle.graph_core.proofs.from_counting.Common.{◌≡◌, ◌↔◌, ◌+◌, ℕ, List, [], ◌∷◌, inl, inr, sym, ◌∙◌, ap, subst, arith, none-some, same_Some}
 use Rattle.graph_core.proofs.Common.{Graph, IsGraph}
-use Rattle.move_laws.proofs.from_tree_core.Common.{PlainMove, TurnsThrough, Shape}
-use Rattle.move_laws.specs.from_tree_core.declared.tree.Tree.{Tree}
+use Rattle.tree_core.proofs.Common.{PlainMove, TurnsThrough, Shape}
+use Rattle.tree_core.specs.declared.tree.Tree.{Tree}
 use Rattle.tree_check.proofs.FirstRefusals.{refused-not_derived, refused-once}
 use Rattle.tree_check.specs.Common.{Why, IsRefused, without_matching, IsReplay, IsStuckAt, IsRefusedMoveAt}
 use Rattle.tree_check.specs.declared.judgement.Why.{Why as StoredWhy}

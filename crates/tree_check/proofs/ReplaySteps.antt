@@ -2,8 +2,8 @@
 -- the tree that is reached. The next move goes on, or it is the first failing one.
 use Rattle.graph_core.proofs.from_counting.Common.{◌≡◌, ◌+◌, ℕ, zero, suc, List, [], ◌∷◌, slice_get, take, Some, None, refl, subst, arith, none-some}
 use Rattle.graph_core.proofs.Common.{Graph}
-use Rattle.move_laws.proofs.from_tree_core.Common.{IsDerivation, PlainMove, TurnsThrough, move_result, move_of, moves_of, Shape}
-use Rattle.move_laws.specs.from_tree_core.declared.moves.Move.{Move}
+use Rattle.tree_core.proofs.Common.{IsDerivation, PlainMove, TurnsThrough, move_result, move_of, moves_of, Shape}
+use Rattle.tree_core.specs.declared.moves.Move.{Move}
 use Rattle.tree_check.specs.Common.{Why, IsRefused, IsStuckAt, IsRefusedMoveAt}
 
 -- the tree that is reached is a derivation

@@ -2,8 +2,8 @@
 -- and the numbers of its nodes and leaves, which stay below those of the blocks.
 use Rattle.graph_core.proofs.from_counting.Common.{◌≡◌, ℕ, ◌+◌, ◌*◌, ◌≤◌, List, length, refl, arith, subst₂, inl, inr, count, mem}
 use Rattle.graph_core.proofs.Common.{Graph, IsGraph, IsCovered, IsPartition, singles, blocks_in}
-use Rattle.move_laws.proofs.from_tree_core.Common.{blocks-below, few-cuts_at, kept-length, kept-partition, merged-length, merged-partition, leaf_count-cuts, node_count-cuts, IsCutAt, PlaceValue, kept_at, leaves_at, merged_at, Shape, cut, node_count}
-use Rattle.move_laws.specs.from_tree_core.declared.tallies.Tally.{Tally}
+use Rattle.tree_core.proofs.Common.{blocks-below, few-cuts_at, kept-length, kept-partition, merged-length, merged-partition, leaf_count-cuts, node_count-cuts, IsCutAt, PlaceValue, kept_at, leaves_at, merged_at, Shape, cut, node_count}
+use Rattle.tree_core.specs.declared.tallies.Tally.{Tally}
 use Rattle.tree_check.proofs.CountedLeaves.{leaves-counted, tally-both}
 use Rattle.tree_check.specs.Common.{IsScanResult, IsScannedAt, sum_of}
 use Rattle.tree_check.specs.declared.judgement.Why.{Why as StoredWhy}

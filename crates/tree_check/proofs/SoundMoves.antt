@@ -5,9 +5,9 @@ use Rattle.move_laws.proofs.from_contraction.QuotientLaws.{covered_down}
 use Rattle.graph_core.proofs.Common.{at_place, place_in, IsCovered, Graph, IsGraph, AreBlocks, IsPartition, place, quotient, IsUnion, block_count, blocks_in}
 use Rattle.move_laws.proofs.CarriedCuts.{some_of}
 use Rattle.move_laws.proofs.MoveParts.{switch_derives_law}
-use Rattle.move_laws.proofs.from_tree_core.Common.{IsCutAt, IsDerivationAt, IsBlockOf, kept_at, merged_at, Shape, cut}
-use Rattle.move_laws.specs.from_tree_core.declared.path.Side.{Side}
-use Rattle.move_laws.specs.from_tree_core.declared.path.Side.TheVariants.{Kept, Merged}
+use Rattle.tree_core.proofs.Common.{IsCutAt, IsDerivationAt, IsBlockOf, kept_at, merged_at, Shape, cut}
+use Rattle.tree_core.specs.declared.path.Side.{Side}
+use Rattle.tree_core.specs.declared.path.Side.TheVariants.{Kept, Merged}
 use Rattle.tree_check.specs.Common.{IsBlock, IsSwitchOfDerivation}
 
 -- a union of blocks that counts one is a block

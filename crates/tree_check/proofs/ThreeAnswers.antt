@@ -4,7 +4,7 @@ use Rattle.std.proofs.Common.{◌≡◌, ◌↔◌, refl, arith}
 use Rattle.graph_core.proofs.Common.{covered_perfect, Graph, IsMultigraph, reason_of}
 use Rattle.graph_core.specs.Covered
 use Rattle.graph_core.specs.declared.verdict.Reason.{Reason}
-use Rattle.move_laws.proofs.from_tree_core.Common.{IsDerivation, Shape}
+use Rattle.tree_core.proofs.Common.{IsDerivation, Shape}
 use Rattle.tree_check.proofs.FirstRefusals.{refused-not_derived}
 use Rattle.tree_check.specs.Common.{IsJudgement, why_of}
 use Rattle.tree_check.specs.declared.judgement.Judgement.{Judgement}

@@ -1,7 +1,7 @@
 -- The judgement of a tree, as the code answers it.
 -- Stated by: tree_check, bench_reports.
 use Rattle.graph_core.specs.Common.{IsReason, Graph, reason_of}
-use Rattle.move_laws.specs.from_tree_core.Common.{IsDerivation, Shape}
+use Rattle.tree_core.specs.Common.{IsDerivation, Shape}
 use Rattle.tree_check.specs.Refusals.{Why, not_blocks, even, trivial, not_tight, not_leaf, IsRefused}
 use Rattle.tree_check.specs.declared.judgement.Why.{Why as StoredWhy}
 use Rattle.tree_check.specs.declared.judgement.Why.TheVariants.{NotBlocks, Even, Trivial, NotTight, NotLeaf}

@@ -2,7 +2,7 @@
 -- Stated by: tree_check.
 use Rattle.std.specs.Prelude.{◌≡◌}
 use Rattle.graph_core.specs.Common.{Graph}
-use Rattle.move_laws.specs.from_tree_core.Common.{IsLeafAt, PlaceValue, place_of}
+use Rattle.tree_core.specs.Common.{IsLeafAt, PlaceValue, place_of}
 
 -- a place of g at which no nontrivial shore is tight
 abbrev pub IsLeafOf : Graph → PlaceValue → Type 0

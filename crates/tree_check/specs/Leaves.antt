@@ -2,8 +2,8 @@
 -- Stated by: tree_check.
 use Rattle.std.specs.Prelude.{ℕ, List}
 use Rattle.graph_core.specs.Common.{Graph}
-use Rattle.move_laws.specs.from_tree_core.Common.{IsLeafAt, IsLeafKind}
-use Rattle.move_laws.specs.from_tree_core.declared.tallies.LeafKind.{LeafKind}
+use Rattle.tree_core.specs.Common.{IsLeafAt, IsLeafKind}
+use Rattle.tree_core.specs.declared.tallies.LeafKind.{LeafKind}
 
 -- no nontrivial shore is tight at p, and the leaf there has this kind
 abbrev pub IsLeafOfKind : Graph → List (List ℕ) → LeafKind → Type 0

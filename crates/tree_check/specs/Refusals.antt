@@ -7,7 +7,7 @@ use Rattle.std.specs.Prelude.{◌≡◌, ◌⊎◌, ℕ, ◌+◌, ◌-◌, ◌�
 use Rattle.graph_core.specs.from_counting.Common.{is_odd, mem, IsRisingIn, Set}
 use Rattle.graph_core.specs.Common.{IsCovered, Graph, edges_in_cut, size, IsPerfectAt, singles, IsUnion, block_count, blocks_in, IsNontrivial}
 use Rattle.tight_cuts.specs.Common.{first_shore, candidates_at}
-use Rattle.move_laws.specs.from_tree_core.Common.{IsCutAt, IsDerivationAt, kept_at, merged_at, Shape, leaf, cut, node_count}
+use Rattle.tree_core.specs.Common.{IsCutAt, IsDerivationAt, kept_at, merged_at, Shape, leaf, cut, node_count}
 
 -- why a node is refused, with what shows it
 pub data Why : Type 0 where

@@ -3,7 +3,7 @@
 -- Stated by: tree_check. Used by: bench_outcomes, bench_reports, bench_top, theorems.
 use Rattle.std.specs.Prelude.{◌≡◌, ◌⊎◌, ℕ, ◌+◌, List, [], ◌∷◌, Some, None}
 use Rattle.graph_core.specs.Common.{Graph}
-use Rattle.move_laws.specs.from_tree_core.Common.{IsDerivation, PlainMove, TurnsThrough, move_result, Shape, shape_of}
+use Rattle.tree_core.specs.Common.{IsDerivation, PlainMove, TurnsThrough, move_result, Shape, shape_of}
 use Rattle.tree_check.specs.Judgements.{why_of}
 use Rattle.tree_check.specs.Refusals.{Why, IsRefused}
 use Rattle.tree_check.specs.declared.replaying.Replayed.{Replayed}

@@ -3,8 +3,8 @@
 -- Stated by: tree_check.
 use Rattle.std.specs.Prelude.{◌≡◌, ℕ, ◌+◌, ◌≤◌, List}
 use Rattle.graph_core.specs.Common.{Graph}
-use Rattle.move_laws.specs.from_tree_core.Common.{IsDerivation, IsDerivationAt, IsTally, leaves, leaves_at, Shape}
-use Rattle.move_laws.specs.from_tree_core.declared.tallies.Tally.{Tally}
+use Rattle.tree_core.specs.Common.{IsDerivation, IsDerivationAt, IsTally, leaves, leaves_at, Shape}
+use Rattle.tree_core.specs.declared.tallies.Tally.{Tally}
 use Rattle.tree_check.specs.Judgements.{why_of}
 use Rattle.tree_check.specs.Refusals.{IsRefused, IsRefusedAt}
 use Rattle.tree_check.specs.declared.judgement.Scanned.{Scanned}

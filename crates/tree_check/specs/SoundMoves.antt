@@ -3,8 +3,8 @@
 use Rattle.std.specs.Prelude.{◌≡◌, ℕ, List, Some}
 use Rattle.graph_core.specs.from_counting.Common.{IsRisingIn, mem}
 use Rattle.graph_core.specs.Common.{Graph}
-use Rattle.move_laws.specs.from_tree_core.Common.{IsDerivation, IsDerivationAt, IsBlockOf, PlainMove, move_result, switch_result, Shape}
-use Rattle.move_laws.specs.from_tree_core.declared.path.Side.{Side}
+use Rattle.tree_core.specs.Common.{IsDerivation, IsDerivationAt, IsBlockOf, PlainMove, move_result, switch_result, Shape}
+use Rattle.tree_core.specs.declared.path.Side.{Side}
 
 -- the move makes t of some derivation of g
 abbrev pub IsMadeBy : Graph → PlainMove → Shape → Type 0

@@ -1,7 +1,7 @@
 //! What a check of a tree answers.
 use graph_core::vset_core::VSet;
 use graph_core::{Numbers, Reason};
-use move_laws::tree_core::Tally;
+use tree_core::Tally;
 
 /// Why a node is refused: the first of these that applies. A cut is refused by the first four, a
 /// leaf by the last.

@@ -1,14 +1,14 @@
 //! What is known of the nodes of trees of cuts, so that nothing is sought twice.
 ghost use Rattle.std.specs.Prelude.{◌≡◌, true, IfSome};
-ghost use Rattle.move_laws.specs.from_tree_core.Common.{IsCutAt, IsLeafAt, place_of};
+ghost use Rattle.tree_core.specs.Common.{IsCutAt, IsLeafAt, place_of};
 ghost use Rattle.tree_check.specs.KnownPlaces.{IsLeafOf};
 
 use graph_core::vset_core::VSet;
 use move_laws::contraction::Partition;
 use move_laws::graph_facts::Covered;
-use move_laws::tree_core::KnownPlace;
 use std::alloc::{AllocError as Memory, Global};
 use std::marker::Model;
+use tree_core::KnownPlace;
 
 // A canonical nontrivial shore, and a partition at which it is tight.
 #[derive(Drop)]
@@ -29,7 +29,7 @@ pub struct KnownPlaces<'c, 'g> {
 impl<'c, 'g> Model for KnownPlaces<'c, 'g> {
     ghost use Rattle.graph_core.specs.Common.{Graph};
     ghost use Rattle.std.specs.Prelude.{All};
-    ghost use Rattle.move_laws.specs.from_tree_core.Common.{IsCutAt};
+    ghost use Rattle.tree_core.specs.Common.{IsCutAt};
     ghost use Rattle.tree_check.specs.KnownPlaces.{IsLeafOf};
 
     ghost Value = { Graph };

@@ -2,8 +2,8 @@
 ghost use Rattle.std.specs.Prelude.{◌≡◌, ◌↔◌, ◌⊎◌, ℕ, List};
 ghost use Rattle.graph_core.specs.Common.{IsCovered, Graph, IsGraph, IsMultigraph};
 ghost use Rattle.graph_core.specs.declared.verdict.Reason.{Reason};
-ghost use Rattle.move_laws.specs.from_tree_core.Common.{Shape, IsDerivation, PlainMove, TurnsThrough};
-ghost use Rattle.move_laws.specs.from_tree_core.declared.tree.Tree.{Tree};
+ghost use Rattle.tree_core.specs.Common.{Shape, IsDerivation, PlainMove, TurnsThrough};
+ghost use Rattle.tree_core.specs.declared.tree.Tree.{Tree};
 ghost use Rattle.tree_check.specs.Common.{IsJudgement, IsReplay, IsStuckAt, IsRefusedMoveAt, Why, HasShores, IsRefused, without_matching};
 ghost use Rattle.tree_check.specs.declared.judgement.Judgement.{Judgement};
 ghost use Rattle.tree_check.specs.declared.judgement.Judgement.TheVariants.{Accepted, NotCovered};

@@ -2,14 +2,14 @@
 //! and if there is none, whether the leaf is a brick or a brace.
 ghost use Rattle.std.specs.Prelude.{◌≡◌, ℕ, List, None, Some, IfOk};
 ghost use Rattle.graph_core.specs.Common.{Graph};
-ghost use Rattle.move_laws.specs.from_tree_core.Common.{IsLeafAt, leaf};
+ghost use Rattle.tree_core.specs.Common.{IsLeafAt, leaf};
 ghost use Rattle.tree_check.specs.Common.{why_of, BreaksLeaf, IsLeafOfKind, IsScannedAt};
 
 use crate::judgement::{Scanned, Why};
 use crate::known_places::KnownPlaces;
-use move_laws::tree_core::{KnownPlace, LeafKind, Place, tallied};
 use std::alloc::{AllocError as Memory, Global};
 use tight_cuts::first_at_place;
+use tree_core::{KnownPlace, LeafKind, Place, tallied};
 
 /// What the scan finds at a leaf. It is judged if it is not known, and then known from now on.
 pub(crate) fn scan_leaf<'c, 'g>(

@@ -27,7 +27,6 @@ mod sound_moves;
 // Passed on to the crates above.
 pub use judgement::{Judgement, Scanned, Why};
 pub use known_places::KnownPlaces;
-pub use move_laws::tree_core;
 pub use replaying::{Replayed, replay, replay_covered};
 pub use scan::{check, check_covered, scan_covered, scan_known};
 pub use tight_cuts;

@@ -1,6 +1,6 @@
 //! The replay of a script of moves, with each tree on the way judged.
 ghost use Rattle.std.specs.Prelude.{◌≡◌, ◌<◌, ◌-◌, ◌^◌, length, IfOk};
-ghost use Rattle.move_laws.specs.from_tree_core.Common.{IsDerivation, move_of, moves_of, shape_of};
+ghost use Rattle.tree_core.specs.Common.{IsDerivation, move_of, moves_of, shape_of};
 ghost use Rattle.tree_check.specs.Common.{IsReplay, IsMoved};
 
 use crate::judgement::{Scanned, Why};
@@ -8,8 +8,8 @@ use crate::scan::scan_covered;
 use crate::sound_moves::is_sound;
 use graph_core::MultiGraph;
 use move_laws::graph_facts::Covered;
-use move_laws::tree_core::{Move, Moves, Tree, apply};
 use std::alloc::{AllocError as Memory, Global};
+use tree_core::{Move, Moves, Tree, apply};
 
 /// The answer to a script of moves. Moves are counted from 1.
 #[derive(Drop)]

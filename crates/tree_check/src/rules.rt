@@ -3,7 +3,7 @@ ghost use Rattle.std.specs.Prelude.{◌≡◌, ◌-◌, ℕ, true, All, length, 
 ghost use Rattle.graph_core.specs.from_counting.Common.{Within, is_odd, mem, rising_list, IsRisingIn};
 ghost use Rattle.graph_core.specs.Common.{IsTightAt, IsUnion, block_count, blocks_in, lifted, quotient};
 ghost use Rattle.match_core.specs.Common.{IsOf, edges_of};
-ghost use Rattle.move_laws.specs.from_tree_core.Common.{IsCutAt};
+ghost use Rattle.tree_core.specs.Common.{IsCutAt};
 ghost use Rattle.tree_check.specs.Common.{why_of, BreaksCut, CrossesAt};
 
 use crate::judgement::Why;
@@ -12,9 +12,9 @@ use graph_core::Numbers;
 use graph_core::vset_core::VSet;
 use match_core::Matching;
 use move_laws::contraction::{Partition, lift, quotient, quotient_graph};
-use move_laws::tree_core::Place;
 use std::alloc::{AllocError as Memory, Global};
 use tight_cuts::{Tightness, is_tight, tightness_in};
+use tree_core::Place;
 
 /// The first rule that the cut of `shore` breaks at `p`; `None` if and only if `shore` is a
 /// canonical nontrivial shore that is tight at `p`.

@@ -1,6 +1,6 @@
 //! The scan of a tree in preorder.
 ghost use Rattle.std.specs.Prelude.{◌≡◌, ◌≤◌, ◌<◌, ◌+◌, ◌^◌, length, IfOk};
-ghost use Rattle.move_laws.specs.from_tree_core.Common.{Fits, cut, shape_of};
+ghost use Rattle.tree_core.specs.Common.{Fits, cut, shape_of};
 ghost use Rattle.tree_check.specs.Common.{IsJudgement, HasFewKinds, IsScanResult, IsScannedAt, sum_of};
 
 use crate::judgement::{Judgement, Scanned};
@@ -10,8 +10,8 @@ use crate::rules::fault_if_unknown;
 use graph_core::MultiGraph;
 use graph_core::vset_core::VSet;
 use move_laws::graph_facts::Covered;
-use move_laws::tree_core::{Place, Tally, Tree};
 use std::alloc::{AllocError as Memory, Global};
+use tree_core::{Place, Tally, Tree};
 
 /// Whether `tree`, whose shores lie below the order of `g`, is a derivation of `g`. `NotCovered`
 /// comes if and only if `g` is not matching covered, with the first reason; `Accepted` if and only

@@ -5,15 +5,15 @@
 //! is judged, in place of the tree.
 ghost use Rattle.std.specs.Prelude.{◌≡◌, ◌-◌, IfOk, IsTrue, All};
 ghost use Rattle.graph_core.specs.from_counting.Common.{Within};
-ghost use Rattle.move_laws.specs.from_tree_core.Common.{IsCutAt, IsDerivation, IsDerivationAt, move_of, Fits, shape_of};
+ghost use Rattle.tree_core.specs.Common.{IsCutAt, IsDerivation, IsDerivationAt, move_of, Fits, shape_of};
 ghost use Rattle.tree_check.specs.Common.{IsBlock, IsMadeBy, IsSwitchOfDerivation};
 
 use crate::rules::cut_fault;
 use graph_core::vset_core::VSet;
 use move_laws::contraction::Partition;
 use move_laws::graph_facts::Covered;
-use move_laws::tree_core::{Move, Place, Side, Tree};
 use std::alloc::{AllocError as Memory, Global};
+use tree_core::{Move, Place, Side, Tree};
 
 /// Whether the tree that the move made of a derivation is one by the laws of moves.
 pub(crate) fn is_sound(alloc: Global, c: &Covered, made: &Tree, item: &Move) -> Result<bool, Memory>

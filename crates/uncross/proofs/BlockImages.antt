@@ -1,7 +1,7 @@
 -- The images of blocks: the part of a set within 1 to n is the list of its test, and the names of
 -- images are made from such lists.
 use Rattle.graph_core.proofs.from_counting.Common.{◌≡◌, ◌↔◌, ◌<◌, ◌+◌, ℕ, Bool, true, ◌&&◌, List, [], ◌∷◌, ◌++◌, Some, length, map, take, get_or, slice_get, ap, sym, ◌∙◌, arith, and_parts, map-append, take_more, get_or_from_slice_get, list-from_test, set-narrower, and_true, Within, IsRisingIn, is_subset, last_of, mem, rising_list}
-use Rattle.move_laws.proofs.from_tree_core.Common.{inner_rest, list_if, meet_list, outer_rest, union_list}
+use Rattle.tree_core.proofs.Common.{inner_rest, list_if, meet_list, outer_rest, union_list}
 use Rattle.uncross.specs.declared.block_images.Images.{Images}
 use Rattle.uncross.specs.declared.block_images.Images.TheVariants.{Moved}
 use Rattle.uncross.specs.Common.{image_name, kept_images}

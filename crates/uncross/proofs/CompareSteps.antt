@@ -2,8 +2,8 @@
 -- below the root may ask, and that the whole is a script of few moves.
 use Rattle.std.proofs.Common.{◌≡◌, ℕ, ◌+◌, ◌*◌, ◌≤◌, List, ◌++◌, length, map, sym, arith, subst}
 use Rattle.graph_core.proofs.Common.{IsCovered, Graph, IsGraph, IsPartition, quotient}
-use Rattle.move_laws.proofs.from_tree_core.Common.{IsDerivationAt, kept_at, merged_at, PlainMove, below, Shape, cut, cut_count, leaf}
-use Rattle.move_laws.specs.from_tree_core.declared.path.Side.TheVariants.{Kept, Merged}
+use Rattle.tree_core.proofs.Common.{IsDerivationAt, kept_at, merged_at, PlainMove, below, Shape, cut, cut_count, leaf}
+use Rattle.tree_core.specs.declared.path.Side.TheVariants.{Kept, Merged}
 use Rattle.move_laws.proofs.BigShores.{cut_big}
 use Rattle.move_laws.proofs.Comparison.{square}
 use Rattle.uncross.proofs.ExposeSteps.{stage_of}

@@ -2,9 +2,9 @@
 -- there, and elsewhere each block is its own image. The leaf maps of a move are made of them.
 use Rattle.std.proofs.Common.{◌≡◌, ℕ, zero, suc, ◌+◌, ◌≤◌, ◌<◌, Bool, true, false, ◌⊎◌, inl, inr, if◌then◌else◌, nat_lt, List, [], ◌∷◌, ◌++◌, length, map, get_or, refl, ap, ap₂, ◌∙◌, arith, le-ltb, lt-ltb}
 use Rattle.graph_core.proofs.Common.{names_of}
-use Rattle.move_laws.proofs.from_tree_core.Common.{length-leaves_at, kept_at, merged_at, PlainLeafMap, maps_from, names_at, position, leaves_at, Shape, cut, leaf, leaf_count}
-use Rattle.move_laws.specs.from_tree_core.declared.path.Side.{Side}
-use Rattle.move_laws.specs.from_tree_core.declared.path.Side.TheVariants.{Kept, Merged}
+use Rattle.tree_core.proofs.Common.{length-leaves_at, kept_at, merged_at, PlainLeafMap, maps_from, names_at, position, leaves_at, Shape, cut, leaf, leaf_count}
+use Rattle.tree_core.specs.declared.path.Side.{Side}
+use Rattle.tree_core.specs.declared.path.Side.TheVariants.{Kept, Merged}
 use Rattle.uncross.specs.Common.{exchange_at, images_at, image_name}
 use Rattle.uncross.specs.declared.block_images.Images.{Images}
 use Rattle.uncross.specs.declared.block_images.Images.TheVariants.{Own}

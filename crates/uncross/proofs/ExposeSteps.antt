@@ -3,7 +3,7 @@
 use Rattle.std.proofs.Common.{◌≡◌, ℕ, List, Option, Some, sym, ap, ◌∙◌, subst, arith}
 use Rattle.move_laws.proofs.from_contraction.QuotientLaws.{covered_down}
 use Rattle.graph_core.proofs.Common.{IsCovered, Graph, IsGraph, IsPartition, complement_of, quotient}
-use Rattle.move_laws.proofs.from_tree_core.Common.{cut-below, stands-derivation_at, IsCutAt, IsDerivationAt, kept_at, merged_at, PlainMove, Fits, Shape, cut, leaf}
+use Rattle.tree_core.proofs.Common.{cut-below, stands-derivation_at, IsCutAt, IsDerivationAt, kept_at, merged_at, PlainMove, Fits, Shape, cut, leaf}
 use Rattle.move_laws.proofs.BigShores.{Big, Stage, big_rest, cut_big, stage_merged}
 use Rattle.move_laws.proofs.NestedShores.{leaf_not}
 use Rattle.uncross.proofs.Planned.{first_is_cut, plan_done, second_is_cut}

@@ -2,8 +2,8 @@
 -- with the shore at its root.
 use Rattle.std.proofs.Common.{List, [], Option, Some, ap, arith, option_map, sym, unwrap_or, ℕ, ◌≡◌, ◌∙◌}
 use Rattle.graph_core.proofs.Common.{Graph}
-use Rattle.move_laws.proofs.from_tree_core.Common.{moves_of, Shape, cut, cut_count, leaf}
-use Rattle.move_laws.specs.from_tree_core.declared.moves.Move.{Move}
+use Rattle.tree_core.proofs.Common.{moves_of, Shape, cut, cut_count, leaf}
+use Rattle.tree_core.specs.declared.moves.Move.{Move}
 use Rattle.uncross.specs.Common.{IsBrought, IsRaised, IsExposed}
 
 -- if a shore is exposed, there are moves, so the default for none is not used

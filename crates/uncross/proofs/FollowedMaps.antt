@@ -3,7 +3,7 @@
 use Rattle.graph_core.proofs.from_counting.Common.{All, List, Option, Some, None, [], ◌∙◌, ◌∷◌, ap, ap₂, arith, get_or, length, map, refl, subst, suc, ℕ, ◌+◌, ◌-◌, ◌≡◌, ◌≤◌, All-from_get_or, get_or-map, Within}
 use Rattle.move_laws.specs.from_contraction.Partition.{PartitionValue}
 use Rattle.graph_core.proofs.Common.{Graph, IsPartition, place, singles}
-use Rattle.move_laws.proofs.from_tree_core.Common.{PlainLeafMap, leaf_at, map_at, maps_from, move_maps, move_order, name, position, then_map, leaves, partitions_of, PlainMove, rotate_at, switch_at, Shape}
+use Rattle.tree_core.proofs.Common.{PlainLeafMap, leaf_at, map_at, maps_from, move_maps, move_order, name, position, then_map, leaves, partitions_of, PlainMove, rotate_at, switch_at, Shape}
 use Rattle.move_laws.proofs.SameLeaves.{name_within}
 use Rattle.uncross.proofs.ExchangedLeaves.{exchanged, maps_by-at, names_by, names_nowhere, nowhere-own}
 use Rattle.uncross.specs.Common.{exchange_at, images_at, IsMapInto, IsMapIntoIf, IsNameIn, IsSwitched, blocks_of, led_on, map_after, names_after, image_name}

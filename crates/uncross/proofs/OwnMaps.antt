@@ -4,7 +4,7 @@ use Rattle.graph_core.proofs.from_counting.Common.{◌≡◌, ℕ, zero, suc, �
 use Rattle.move_laws.specs.from_contraction.Partition.{PartitionValue}
 use Rattle.graph_core.proofs.Common.{names_of}
 use Rattle.move_laws.proofs.Alignments.{numbers-split}
-use Rattle.move_laws.proofs.from_tree_core.Common.{length-leaves_at, PlainLeafMap, maps_from, numbers, own_maps, position, leaves, partitions_of, Shape, leaf_count}
+use Rattle.tree_core.proofs.Common.{length-leaves_at, PlainLeafMap, maps_from, numbers, own_maps, position, leaves, partitions_of, Shape, leaf_count}
 use Rattle.uncross.proofs.FollowedMaps.{blocks-partitions}
 use Rattle.uncross.specs.Common.{blocks_of, map_of, maps_of}
 use Rattle.uncross.specs.declared.leaf_maps.LeafMap.{LeafMap}

@@ -1,8 +1,8 @@
 -- The order of the leaves under a Rotate: its path taken apart before the last step, where the
 -- path of the parent ends.
 use Rattle.std.proofs.Common.{◌≡◌, ℕ, List, [], ◌∷◌, ◌++◌, ap, ap₂, refl, ◌∙◌}
-use Rattle.move_laws.proofs.from_tree_core.Common.{last_step-end, parent_path-end, move_order, order_at, rotate_order, rotate_at, Shape}
-use Rattle.move_laws.specs.from_tree_core.declared.path.Side.{Side}
+use Rattle.tree_core.proofs.Common.{last_step-end, parent_path-end, move_order, order_at, rotate_order, rotate_at, Shape}
+use Rattle.tree_core.specs.declared.path.Side.{Side}
 
 order-end : (n : ℕ) (parents : List Side) (last : Side) (t : Shape) → move_order n (rotate_at (parents ++ last ∷ [])) t ≡ order_at (rotate_order last) parents 0 t
 order-end n [] last t = refl

@@ -1,7 +1,7 @@
 -- The sets of a plan as lists: corners, complements, and equal shores. Idea: an increasing list is
 -- determined by its members, so it is enough to compare members.
 use Rattle.graph_core.proofs.from_counting.Common.{◌≡◌, ◌↔◌, ℕ, true, ◌&&◌, ◌||◌, not, List, sym, ◌∙◌, arith, same_tests, and_parts, mem-within, all_in_true, list-from_test, same_rising_list, set-narrower, Within, IsRisingIn, is_subset, mem, complement, meet, union}
-use Rattle.move_laws.proofs.from_tree_core.Common.{list-of, meet_list}
+use Rattle.tree_core.proofs.Common.{list-of, meet_list}
 use Rattle.move_laws.specs.Common.{outer_of}
 
 pub inner-is : (n : ℕ) (x y r : List ℕ) → IsRisingIn n x → IsRisingIn 128 r → ((v : ℕ) → mem r v ≡ (mem x v && mem y v)) → r ≡ meet_list n x y

@@ -2,8 +2,8 @@
 -- there, and then the root is the shore.
 use Rattle.graph_core.proofs.from_counting.Common.{◌≡◌, ℕ, ◌≤◌, ◌<◌, Bool, true, false, not, List, [], ◌∷◌, ◌++◌, map, Option, Some, None, ◌⊎◌, inl, inr, refl, sym, ap, ap₂, ◌∙◌, arith, subst, not-true, false_all_in, all_in_true, Within, is_apart, is_subset, mem, everything, minus}
 use Rattle.graph_core.proofs.Common.{mem-complement_of, Apart, Below, Graph, complement_of, merged, block_count}
-use Rattle.move_laws.proofs.from_tree_core.Common.{IsCutAt, IsDerivationAt, kept_at, merged_at, IsBlockOf, PlainMove, below, rotate_at, meet_list, Shape, cut}
-use Rattle.move_laws.specs.from_tree_core.declared.path.Side.TheVariants.{Kept, Merged}
+use Rattle.tree_core.proofs.Common.{IsCutAt, IsDerivationAt, kept_at, merged_at, IsBlockOf, PlainMove, below, rotate_at, meet_list, Shape, cut}
+use Rattle.tree_core.specs.declared.path.Side.TheVariants.{Kept, Merged}
 use Rattle.move_laws.proofs.BigShores.{Big, Stage, big_cut, big_rest, big_some, stage_merged, rest_rest}
 use Rattle.move_laws.proofs.Exchange.{block_count-one}
 use Rattle.move_laws.proofs.Corners.{Corners, inner_single_or_big, outer_single_or_big}

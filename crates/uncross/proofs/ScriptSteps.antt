@@ -3,7 +3,7 @@
 -- this.
 use Rattle.graph_core.proofs.from_counting.Common.{All, List, Some, ap, arith, length, map, subst, subst₂, sym, unwrap_or, ℕ, ◌∙◌, ◌∷◌, ◌≡◌, ◌≤◌, count_complement, mem}
 use Rattle.graph_core.proofs.Common.{length-singles, Graph, IsGraph, singles, blocks_in}
-use Rattle.move_laws.proofs.from_tree_core.Common.{few-leaves, partitions-leaves, fits-derivation, stands-derivation, IsDerivation, PlainLeafMap, maps_after, move_maps, own_maps, script_maps, then_map, StandsAt, leaves, PlainMove, move_result, Fits, Shape, cut, leaf, leaf_count}
+use Rattle.tree_core.proofs.Common.{few-leaves, partitions-leaves, fits-derivation, stands-derivation, IsDerivation, PlainLeafMap, maps_after, move_maps, own_maps, script_maps, then_map, StandsAt, leaves, PlainMove, move_result, Fits, Shape, cut, leaf, leaf_count}
 use Rattle.uncross.proofs.FollowedMaps.{paired_into}
 use Rattle.move_laws.proofs.MoveParts.{move_pairs}
 use Rattle.move_laws.proofs.Rising.{rising-derivation_at}

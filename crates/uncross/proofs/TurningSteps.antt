@@ -2,7 +2,7 @@
 -- if the first step has no result, nothing follows it; if it has one, the moves made before are put
 -- in front.
 use Rattle.graph_core.proofs.from_counting.Common.{◌≡◌, List, [], ◌++◌, Option, Some, None, option_and_then, refl, ap, ap₂, ◌∙◌, none-some}
-use Rattle.move_laws.proofs.from_tree_core.Common.{PlainMove, Shape}
+use Rattle.tree_core.proofs.Common.{PlainMove, Shape}
 use Rattle.move_laws.specs.Common.{PlainTurned, followed}
 use Rattle.uncross.specs.Common.{IsMade}
 

@@ -2,7 +2,7 @@
 -- Stated by: uncross.
 use Rattle.std.specs.Prelude.{◌≡◌, ◌+◌, ◌*◌, ◌≤◌, ℕ, List, length}
 use Rattle.graph_core.specs.Common.{Graph}
-use Rattle.move_laws.specs.from_tree_core.Common.{PlaceValue, PlainMove, Shape, cut, cut_count}
+use Rattle.tree_core.specs.Common.{PlaceValue, PlainMove, Shape, cut, cut_count}
 use Rattle.move_laws.specs.Common.{IsProperScript}
 
 -- q is the place of the graph at p

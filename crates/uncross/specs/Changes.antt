@@ -1,7 +1,7 @@
 -- The order of the leaves that a move gives at the end of its path.
 -- Stated by: uncross.
 use Rattle.std.specs.Prelude.{ℕ, List}
-use Rattle.move_laws.specs.from_tree_core.Common.{rotate_order, switch_order, Shape}
+use Rattle.tree_core.specs.Common.{rotate_order, switch_order, Shape}
 use Rattle.uncross.specs.declared.leaf_orders.Change.{Change}
 use Rattle.uncross.specs.declared.leaf_orders.Change.TheVariants.{Rotate, Switch}
 

@@ -1,9 +1,9 @@
 -- What a Switch does to the leaves of a tree, as plain data.
 -- Stated by: uncross.
 use Rattle.std.specs.Prelude.{ℕ, ◌+◌, List, [], ◌∷◌, if◌then◌else◌, nat_lt}
-use Rattle.move_laws.specs.from_tree_core.Common.{Shape, cut, leaf, leaf_count}
-use Rattle.move_laws.specs.from_tree_core.declared.path.Side.{Side}
-use Rattle.move_laws.specs.from_tree_core.declared.path.Side.TheVariants.{Kept, Merged}
+use Rattle.tree_core.specs.Common.{Shape, cut, leaf, leaf_count}
+use Rattle.tree_core.specs.declared.path.Side.{Side}
+use Rattle.tree_core.specs.declared.path.Side.TheVariants.{Kept, Merged}
 use Rattle.uncross.specs.MapView.{kept_images, merged_images}
 use Rattle.uncross.specs.declared.block_images.Images.{Images}
 use Rattle.uncross.specs.declared.block_images.Images.TheVariants.{Own}

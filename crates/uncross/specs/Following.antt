@@ -4,7 +4,7 @@ use Rattle.std.specs.Prelude.{◌≡◌, ℕ, List, Option, None, Some, All, len
 use Rattle.move_laws.specs.from_contraction.Partition.{PartitionValue}
 use Rattle.graph_core.specs.from_counting.Common.{Within, last_of}
 use Rattle.graph_core.specs.Common.{block, place}
-use Rattle.move_laws.specs.from_tree_core.Common.{PlainLeafMap, leaf_at, move_maps, position, then_map, leaves, partitions_of, PlainMove, rotate_at, switch_at, Shape}
+use Rattle.tree_core.specs.Common.{PlainLeafMap, leaf_at, move_maps, position, then_map, leaves, partitions_of, PlainMove, rotate_at, switch_at, Shape}
 use Rattle.uncross.specs.Exchanges.{exchange_at, images_at}
 use Rattle.uncross.specs.MapView.{image_name}
 use Rattle.uncross.specs.declared.block_images.Images.{Images}

@@ -2,7 +2,7 @@
 -- Stated by: uncross, bench_reports.
 use Rattle.std.specs.Prelude.{ℕ, List, map}
 use Rattle.graph_core.specs.from_counting.Common.{is_subset, last_of}
-use Rattle.move_laws.specs.from_tree_core.Common.{PlainLeafMap, inner_rest, list_if, meet_list, outer_rest, union_list}
+use Rattle.tree_core.specs.Common.{PlainLeafMap, inner_rest, list_if, meet_list, outer_rest, union_list}
 use Rattle.uncross.specs.declared.block_images.Images.{Images}
 use Rattle.uncross.specs.declared.block_images.Images.TheVariants.{Moved, Own}
 use Rattle.uncross.specs.declared.leaf_maps.LeafMap.{LeafMap}

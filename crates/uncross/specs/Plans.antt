@@ -4,7 +4,7 @@
 use Rattle.std.specs.Prelude.{◌≡◌, ◌+◌, ◌*◌, ◌≤◌, ℕ, true, false, List, [], length, Option, Some, None, ◌⊎◌, if◌then◌else◌, nat_lt}
 use Rattle.graph_core.specs.from_counting.Common.{is_apart, is_subset, mem}
 use Rattle.graph_core.specs.Common.{Graph, block_count}
-use Rattle.move_laws.specs.from_tree_core.Common.{IsCutAt, PlainMove, meet_list, Shape, cut, cut_count}
+use Rattle.tree_core.specs.Common.{IsCutAt, PlainMove, meet_list, Shape, cut, cut_count}
 use Rattle.move_laws.specs.Common.{outer_of, outer_shore, partner, IsProperScript, PlainTurned, over_inner, raised_kept, raised_merged}
 
 -- y is the root shore; or it is exposed in `kept` or in `merged` first; or it crosses the root

@@ -1,7 +1,7 @@
 -- How the code's turned trees are seen, as plain data.
 -- Stated by: uncross.
 use Rattle.std.specs.Prelude.{◌≡◌, ◌++◌, List}
-use Rattle.move_laws.specs.from_tree_core.Common.{PlainMove, moves_of, Shape, shape_of}
+use Rattle.tree_core.specs.Common.{PlainMove, moves_of, Shape, shape_of}
 use Rattle.move_laws.specs.Common.{PlainTurned}
 use Rattle.uncross.specs.declared.turning.Turned.{Turned}
 

@@ -1,7 +1,7 @@
 //! The images of blocks: the names that the blocks of a leaf get by a Switch above it.
 ghost use Rattle.std.specs.Prelude.{◌≡◌, ◌≤◌, IfOk, map};
 ghost use Rattle.graph_core.specs.from_counting.Common.{mem, rising_list};
-ghost use Rattle.move_laws.specs.from_tree_core.Common.{list_if, meet_list, minus_list, union_list};
+ghost use Rattle.tree_core.specs.Common.{list_if, meet_list, minus_list, union_list};
 ghost use Rattle.uncross.specs.Common.{image_name, kept_images, merged_images};
 
 use crate::plans::complement;

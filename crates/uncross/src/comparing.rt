@@ -1,7 +1,7 @@
 //! Comparing: a derivation is turned into another, and the leaves of the two are paired.
 ghost use Rattle.std.specs.Prelude.{◌≡◌, ◌++◌, ◌*◌, ◌≤◌, IfOk, length, map};
 ghost use Rattle.graph_core.specs.Common.{singles};
-ghost use Rattle.move_laws.specs.from_tree_core.Common.{IsCutAt, IsDerivation, IsDerivationAt, kept_at, merged_at, script_maps, leaves, moves_of, TurnsThrough, below, cut_count, shape_of};
+ghost use Rattle.tree_core.specs.Common.{IsCutAt, IsDerivation, IsDerivationAt, kept_at, merged_at, script_maps, leaves, moves_of, TurnsThrough, below, cut_count, shape_of};
 ghost use Rattle.move_laws.specs.Common.{IsPairing, IsProperScript};
 ghost use Rattle.uncross.specs.Common.{IsBrought, IsPlaceBelow, maps_of};
 
@@ -13,8 +13,8 @@ use crate::turning::append_below;
 use graph_core::MultiGraph;
 use graph_core::vset_core::VSet;
 use move_laws::graph_facts::Covered;
-use move_laws::tree_core::{Moves, Place, Side, Tree, copy};
 use std::alloc::{AllocError as Memory, Global};
+use tree_core::{Moves, Place, Side, Tree, copy};
 
 /// The two trees below a shore that moves have brought to the root, their places, and the moves.
 #[derive(Drop)]

@@ -1,13 +1,13 @@
 //! What a Switch does to the leaves of a tree: which of them are below its node, and how their
 //! blocks correspond to the blocks of their partners.
 ghost use Rattle.std.specs.Prelude.{◌≡◌, ◌≤◌, ◌+◌};
-ghost use Rattle.move_laws.specs.from_tree_core.Common.{leaf_count, shape_of};
+ghost use Rattle.tree_core.specs.Common.{leaf_count, shape_of};
 ghost use Rattle.uncross.specs.Common.{exchange_at, images_at};
 
 use crate::block_images::{Images, kept_images, merged_images};
 use crate::leaf_orders::leaf_total;
 use graph_core::vset_core::{MOST_VERTICES, VSet};
-use move_laws::tree_core::{MOST_NODES, Side, Tree};
+use tree_core::{MOST_NODES, Side, Tree};
 
 /// The leaves below the node of a Switch, by their numbers in preorder, counted from 1, and the
 /// images of their blocks.

@@ -1,7 +1,7 @@
 //! Exposing: a shore is brought to the root of a derivation.
 ghost use Rattle.std.specs.Prelude.{◌≡◌, List, Some, IfOk, map, option_map, ◌*◌, ◌≤◌, length};
 ghost use Rattle.graph_core.specs.Common.{singles};
-ghost use Rattle.move_laws.specs.from_tree_core.Common.{IsCutAt, IsDerivation, IsDerivationAt, script_maps, leaves, moves_of, PlainMove, TurnsThrough, below, Fits, Shape, cut, cut_count, shape_of};
+ghost use Rattle.tree_core.specs.Common.{IsCutAt, IsDerivation, IsDerivationAt, script_maps, leaves, moves_of, PlainMove, TurnsThrough, below, Fits, Shape, cut, cut_count, shape_of};
 ghost use Rattle.move_laws.specs.Common.{IsPairing, PlainTurned, followed, raised};
 ghost use Rattle.uncross.specs.Common.{IsRaised, maps_of, plan_of, CutIf, IsExposed, IsPlan, plan_result, turned_of};
 
@@ -13,8 +13,8 @@ use crate::turning::{Corners, Turned, raise, turn_over_inner};
 use graph_core::MultiGraph;
 use graph_core::vset_core::VSet;
 use move_laws::graph_facts::Covered;
-use move_laws::tree_core::{Moves, Place, Side, Tree, copy};
 use std::alloc::{AllocError as Memory, Global};
+use tree_core::{Moves, Place, Side, Tree, copy};
 
 // Brings the root of a child, which moves have made, above the root.
 fn raise_child(

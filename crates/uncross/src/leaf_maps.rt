@@ -2,7 +2,7 @@
 //! move.
 ghost use Rattle.std.specs.Prelude.{◌≡◌, ◌≤◌, ◌+◌, List, ℕ, length, All, IfOk, map};
 ghost use Rattle.graph_core.specs.from_counting.Common.{Within};
-ghost use Rattle.move_laws.specs.from_tree_core.Common.{PlainLeafMap, leaf_at, position};
+ghost use Rattle.tree_core.specs.Common.{PlainLeafMap, leaf_at, position};
 ghost use Rattle.uncross.specs.Common.{IsMapInto, IsMapIntoIf, IsNameIn, blocks_of, map_after, names_after, images_at, map_of, maps_of};
 
 use crate::block_images::{Images, image_name};
@@ -11,8 +11,8 @@ use graph_core::Numbers;
 use graph_core::listed::Listed;
 use graph_core::vset_core::MOST_VERTICES;
 use move_laws::contraction::Partition;
-use move_laws::tree_core::{MOST_NODES, Partitions};
 use std::alloc::{AllocError as Memory, Global};
+use tree_core::{MOST_NODES, Partitions};
 
 /// The map of one leaf.
 #[derive(Drop)]

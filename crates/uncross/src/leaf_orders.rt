@@ -1,14 +1,14 @@
 //! The order of the leaves under a move: the old numbers of the leaves in the order of the new
 //! tree.
 ghost use Rattle.std.specs.Prelude.{◌≡◌, ◌≤◌, ◌+◌, ◌++◌, IfOk, OnOk, length};
-ghost use Rattle.move_laws.specs.from_tree_core.Common.{kept_order_if_greatest_stays, move_order, numbers, order_at, rotate_order, switch_order, move_of, cut, leaf_count, shape_of};
-ghost use Rattle.move_laws.specs.from_tree_core.declared.path.Side.TheVariants.{Merged};
+ghost use Rattle.tree_core.specs.Common.{kept_order_if_greatest_stays, move_order, numbers, order_at, rotate_order, switch_order, move_of, cut, leaf_count, shape_of};
+ghost use Rattle.tree_core.specs.declared.path.Side.TheVariants.{Merged};
 ghost use Rattle.uncross.specs.Common.{changed_order};
 
 use graph_core::Numbers;
 use graph_core::vset_core::VSet;
-use move_laws::tree_core::{MOST_NODES, Move, Side, Tree, holds_greatest};
 use std::alloc::{AllocError as Memory, Global};
+use tree_core::{MOST_NODES, Move, Side, Tree, holds_greatest};
 
 /// The number of leaves of a tree. Takes no memory.
 pub fn leaf_total(tree: &Tree) -> u32

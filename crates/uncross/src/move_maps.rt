@@ -1,7 +1,7 @@
 //! The maps of scripts of moves: where they take each leaf of a tree, and its blocks.
 ghost use Rattle.std.specs.Prelude.{◌≡◌, ◌≤◌, Some, All, IfOk};
 ghost use Rattle.graph_core.specs.Common.{singles};
-ghost use Rattle.move_laws.specs.from_tree_core.Common.{IsDerivation, own_maps, script_maps, StandsAt, leaves, move_of, moves_of, move_result, Fits, Shape, leaf_count, shape_of};
+ghost use Rattle.tree_core.specs.Common.{IsDerivation, own_maps, script_maps, StandsAt, leaves, move_of, moves_of, move_result, Fits, Shape, leaf_count, shape_of};
 ghost use Rattle.move_laws.specs.Common.{IsProperScript};
 ghost use Rattle.uncross.specs.Common.{IsMapInto, IsSwitched, led_on, maps_of};
 
@@ -11,8 +11,8 @@ use crate::leaf_maps::{LeafMap, LeafMaps, Switched, maps_after};
 use crate::leaf_orders::move_order;
 use graph_core::MultiGraph;
 use graph_core::vset_core::MOST_VERTICES;
-use move_laws::tree_core::{MOST_NODES, Move, Moves, Tree, apply, copy, leaves};
 use std::alloc::{AllocError as Memory, Global};
+use tree_core::{MOST_NODES, Move, Moves, Tree, apply, copy, leaves};
 
 /// The maps of the empty script: each leaf and each block to itself.
 pub fn own_maps(alloc: Global, n: u32, tree: &Tree) -> Result<LeafMaps, Memory>

@@ -1,11 +1,11 @@
 //! The places at the two trees below the root of a derivation.
 ghost use Rattle.std.specs.Prelude.{◌≡◌, IfOk};
-ghost use Rattle.move_laws.specs.from_tree_core.Common.{IsCutAt, kept_at, merged_at};
+ghost use Rattle.tree_core.specs.Common.{IsCutAt, kept_at, merged_at};
 ghost use Rattle.uncross.specs.Common.{IsPlaceBelow};
 
 use graph_core::vset_core::VSet;
-use move_laws::tree_core::Place;
 use std::alloc::{AllocError as Memory, Global};
+use tree_core::Place;
 
 /// The places at the two trees below a root.
 #[derive(Drop)]

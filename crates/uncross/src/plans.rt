@@ -2,13 +2,13 @@
 ghost use Rattle.std.specs.Prelude.{◌≡◌, ◌≤◌};
 ghost use Rattle.graph_core.specs.from_counting.Common.{is_odd, IsRisingIn, mem, meet};
 ghost use Rattle.graph_core.specs.Common.{complement_of, block_count};
-ghost use Rattle.move_laws.specs.from_tree_core.Common.{meet_list};
+ghost use Rattle.tree_core.specs.Common.{meet_list};
 ghost use Rattle.move_laws.specs.Common.{outer_of, outer_shore, partner};
 ghost use Rattle.uncross.specs.Common.{plan_of, IsPlan, first_kept_shore, if_big, second_shore};
 
 use graph_core::vset_core::{MOST_VERTICES, VSet};
 use move_laws::contraction::Partition;
-use move_laws::tree_core::are_apart;
+use tree_core::are_apart;
 
 /// How a shore y is exposed in a tree with the root shore x.
 #[derive(Drop)]

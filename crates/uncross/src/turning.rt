@@ -1,13 +1,13 @@
 //! Turned trees: a tree that moves have made, and the moves.
 ghost use Rattle.std.specs.Prelude.{◌≡◌, ◌++◌, ◌∷◌, ◌-◌, ℕ, [], Some, IfOk, OnOk, map, option_map, All};
 ghost use Rattle.graph_core.specs.from_counting.Common.{Within};
-ghost use Rattle.move_laws.specs.from_tree_core.Common.{moves_of, below, switch_at, with_child, Fits, cut, shape_of};
+ghost use Rattle.tree_core.specs.Common.{moves_of, below, switch_at, with_child, Fits, cut, shape_of};
 ghost use Rattle.move_laws.specs.Common.{PlainTurned, followed, outer_below, over_inner, over_outer, raised, switched, switched_below};
 ghost use Rattle.uncross.specs.Common.{IsMade, turned_of};
 
 use graph_core::vset_core::VSet;
-use move_laws::tree_core::{Move, Moves, Opened, Path, Side, Tree, open, rotate, switch};
 use std::alloc::{AllocError as Memory, Global};
+use tree_core::{Move, Moves, Opened, Path, Side, Tree, open, rotate, switch};
 
 /// A tree that moves have made, and the moves, with paths from its root.
 #[derive(Drop)]

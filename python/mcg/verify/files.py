@@ -2,16 +2,21 @@
 from __future__ import annotations
 
 import re
+from itertools import zip_longest
 from typing import Callable, Dict, List, Sequence, Tuple
 
+from .. import report_texts
 from ..analysis import Analysis, verdict
-from ..comparisons import Comparison, Replay
+from ..comparisons import Comparison
 from ..decompositions import TreeCheck, refusal
-from ..ear_lists import Ears, EarsCheck
+from ..ear_checks import EarsCheck
+from ..ear_lists import Ears
 from ..errors import BadText
-from ..graphs import Graph
+from ..graphs import Graph, is_graph6
 from ..moves import Moves
-from ..texts import spaced
+from ..programs import understood
+from ..replays import Replay
+from ..report_texts import lines_of
 from ..trees import Decomposition
 from . import moves, stages, structure, trees
 from .structure import Given, need
@@ -38,7 +43,9 @@ def command_of(text: str) -> Tuple[str, List[str]]:
     for pattern, command, files in REPORTS:
         if re.match(f"(?m){pattern}", text):
             return command, files
-    raise BadText("not a report of analyse, decompose, check, ears, checkears, compare, script or replay")
+    raise BadText(
+        "not a report of analyse, decompose, check, ears, checkears, compare, script or replay"
+    )
 
 
 def report(graph_text: str, text: str, *files: str) -> str:
@@ -47,19 +54,32 @@ def report(graph_text: str, text: str, *files: str) -> str:
     `files` are the texts of the files that the command read after the graph: none for `analyse`,
     `decompose` and `ears`, the tree for `check`, the ears for `checkears`, both trees for
     `compare` and `script`, the tree and the moves for `replay`. For a line `tree 1 refused ..`
-    the trees are due too. Raises `Wrong`, and `BadGraph` or `BadText` for a text outside its
+    the trees are due too. Every byte of the report is read: what passes is what docs/FORMATS.md
+    has, in its canonical form. Only whether an order or picks would have led to the tree of
+    `decompose` is not asked. Raises `Wrong`, and `BadGraph` or `BadText` for a text outside its
     format.
+
+    >>> report("p mcg 2 1\\ne 1 2\\n", "t mcg 2\\nleaf\\nc leaf 1 brace\\nc block 1\\nc block 2\\n"
+    ...     "c edge 1 2 by 1\\nc leaves 1 bricks 0 braces 1\\n")
+    'decompose'
     """
     command, due = command_of(text)
     if command == "tree":
         due = ["TREE1", "TREE2"][: int(text[len("tree ")])]
-    if len(files) < len(due):
-        raise BadText(f"a report of {command} is checked with the files {' '.join(due)}")
-    CHECKS[command](Graph.from_text(graph_text), text, files)
+    if len(files) < len(due) or (len(files) > len(due) and command not in ("tree", "verdict")):
+        raise BadText(
+            f"a report of {command} is checked with the files {' '.join(due) or 'of the graph and the report alone'}"
+        )
+    rows = CHECKS[command](Graph.from_text(graph_text), text, files)
+    if command == "analyse" and is_graph6(graph_text):
+        rows.append(f"graph6 {Graph.from_text(graph_text).graph6()}")
+    need(text.endswith("\n"), "the last line has no end")
+    for number, (row, found) in enumerate(zip_longest(rows, lines_of(text)), 1):
+        need(row == found, f"line {number} is to be {row!r}, and is {found!r}")
     return command
 
 
-def _tree(graph: Graph, text: str, files: Sequence[str]) -> None:
+def _tree(graph: Graph, text: str, files: Sequence[str]) -> List[str]:
     """The line `tree K refused ..`: tree K is the first that is no decomposition."""
     given = Given(graph)
     need(given.is_covered, "the graph is not matching covered")
@@ -68,18 +88,18 @@ def _tree(graph: Graph, text: str, files: Sequence[str]) -> None:
     nodes = [trees.node_of(given, Decomposition.from_text(it, graph)) for it in files[:place]]
     for node in nodes[:-1]:
         trees.demand_derivation(found, node)
-    found.demand_refusal(nodes[-1], refusal(text.splitlines()[0], graph))
+    with understood("a tree"):
+        refused = refusal(lines_of(text)[0], graph)
+    found.demand_refusal(nodes[-1], refused)
+    return [f"tree {place} refused {report_texts.refusal_words(graph, refused)}"]
 
 
-def _verdict(graph: Graph, text: str, _files: Sequence[str]) -> None:
+def _verdict(graph: Graph, text: str, _files: Sequence[str]) -> List[str]:
     """The line `covered no ..`."""
-    reason, witness = verdict(text.splitlines()[0], graph) or ("", None)
+    with understood("a verdict"):
+        reason, witness = verdict(lines_of(text)[0], graph) or ("", None)
     structure.verdict(Given(graph), False, reason, witness)
-
-
-def _rows(text: str, *words: str) -> List[str]:
-    """The lines that begin with one of these words."""
-    return [row for row in text.splitlines() if row.startswith(words)]
+    return [report_texts.verdict_line(graph, reason, witness)]
 
 
 def _names(graph: Graph, word: str) -> List[str]:
@@ -88,65 +108,65 @@ def _names(graph: Graph, word: str) -> List[str]:
     return [f"{word} {k} {name}" for k, name in names if isinstance(name, str)]
 
 
-def _analyse(graph: Graph, text: str, _files: Sequence[str]) -> None:
-    structure.analyse(graph, Analysis.from_text(text, graph))
-    need(_rows(text, "name ") == _names(graph, "name"), "the names")
-    need(_rows(text, "graph6 ") in ([], [f"graph6 {graph.graph6()}"]), "the line graph6")
+def _analyse(graph: Graph, text: str, _files: Sequence[str]) -> List[str]:
+    analysis = Analysis.from_text(text, graph)
+    structure.analyse(graph, analysis)
+    return [*report_texts.analyse_lines(analysis), *_names(graph, "name")]
 
 
-def _decompose(graph: Graph, text: str, _files: Sequence[str]) -> None:
+def _decompose(graph: Graph, text: str, _files: Sequence[str]) -> List[str]:
     decomposition = Decomposition.from_text(text, graph)
     trees.decompose(graph, decomposition)
-    rows = []
-    for number, leaf in enumerate(decomposition.leaves, 1):
-        blocks = {block: graph.numbers(block) for block in leaf.blocks}
-        rows.append(f"c leaf {number} {leaf.kind}")
-        rows += [spaced("c block", it) for it in blocks.values()]
-        pairs = {tuple(sorted(blocks[it][-1] for it in pair)): pair for pair in leaf.edges}
-        for (a, b), pair in sorted(pairs.items()):
-            rows.append(spaced(f"c edge {a} {b} by", map(graph.edge_number, leaf.edges[pair])))
-    counts = len(decomposition.leaves), decomposition.bricks, decomposition.braces
-    rows.append("c leaves {} bricks {} braces {}".format(*counts))
-    need(_rows(text, "c ") == rows + _names(graph, "c name"), "the comments on the leaves")
+    return [*report_texts.decompose_lines(decomposition), *_names(graph, "c name")]
 
 
-def _check(graph: Graph, text: str, files: Sequence[str]) -> None:
-    tree = Decomposition.from_text(files[0], graph)
-    trees.check(graph, tree, TreeCheck.from_text(text, graph))
+def _check(graph: Graph, text: str, files: Sequence[str]) -> List[str]:
+    found = TreeCheck.from_text(text, graph)
+    trees.check(graph, Decomposition.from_text(files[0], graph), found)
+    return report_texts.check_lines(found, graph)
 
 
-def _ears(graph: Graph, text: str, _files: Sequence[str]) -> None:
+def _ears(graph: Graph, text: str, _files: Sequence[str]) -> List[str]:
     listed = Ears.from_text(text, graph)
     stages.ears(graph, listed)
-    row = f"c steps {len(listed.steps)} single {listed.single} double {listed.double}"
-    need(_rows(text, "c ") == [row], "the count of the steps")
+    return report_texts.ears_lines(listed, graph)
 
 
-def _checkears(graph: Graph, text: str, files: Sequence[str]) -> None:
-    stages.check_ears(graph, Ears.from_text(files[0], graph), EarsCheck.from_text(text, graph))
+def _checkears(graph: Graph, text: str, files: Sequence[str]) -> List[str]:
+    found = EarsCheck.from_text(text, graph)
+    stages.check_ears(graph, Ears.from_text(files[0], graph), found)
+    return report_texts.checkears_lines(found, graph)
 
 
-def _compare(graph: Graph, text: str, files: Sequence[str]) -> None:
+def _compare(graph: Graph, text: str, files: Sequence[str]) -> List[str]:
     first, second = (Decomposition.from_text(it, graph) for it in files[:2])
-    moves.compare(graph, Comparison.from_text(text, graph, first, second))
+    found = Comparison.from_text(text, graph, first, second)
+    moves.compare(graph, found)
+    return report_texts.compare_lines(found)
 
 
-def _script(graph: Graph, text: str, files: Sequence[str]) -> None:
+def _script(graph: Graph, text: str, files: Sequence[str]) -> List[str]:
     """A script is what `replay` makes the second tree with."""
     first, second = (Decomposition.from_text(it, graph) for it in files[:2])
     listed = Moves.from_text(text, graph)
     moves.replay(graph, first, listed, Replay(second))
-    row = f"c leaves {len(first.leaves)} moves {len(listed)}"
-    need(_rows(text, "c ") == [row], "the count of the moves")
+    cuts = len(first.leaves) - 1
+    need(len(listed) <= 5 * cuts**2, f"more than {5 * cuts**2} moves for {cuts} cuts")
+    return report_texts.script_lines(listed, graph, len(first.leaves))
 
 
-def _replay(graph: Graph, text: str, files: Sequence[str]) -> None:
+def _replay(graph: Graph, text: str, files: Sequence[str]) -> List[str]:
     tree, listed = Decomposition.from_text(files[0], graph), Moves.from_text(files[1], graph)
-    moves.replay(graph, tree, listed, Replay.from_text(text, graph))
-    need(_rows(text, "c ") in ([], [f"c moves {len(listed)}"]), "the count of the moves")
+    found = Replay.from_text(text, graph)
+    moves.replay(graph, tree, listed, found)
+    return (
+        lines_of(text)
+        if found.result is None
+        else report_texts.replayed_lines(found.result, len(listed))
+    )
 
 
-CHECKS: Dict[str, Callable[[Graph, str, Sequence[str]], None]] = {
+CHECKS: Dict[str, Callable[[Graph, str, Sequence[str]], List[str]]] = {
     "analyse": _analyse,
     "decompose": _decompose,
     "check": _check,

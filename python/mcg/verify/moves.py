@@ -3,9 +3,10 @@ from __future__ import annotations
 
 from typing import Callable, Dict, Sequence, Tuple
 
-from ..comparisons import Comparison, Replay
+from ..comparisons import Comparison
 from ..graphs import GraphLike
 from ..moves import Move, Rotate
+from ..replays import Replay
 from ..trees import TreeLike
 from .places import Place
 from .structure import Given, Wrong, need, verdict
@@ -91,7 +92,12 @@ def _carried(node: Node, image: Image) -> Node:
 def compare(graph: GraphLike, report: Comparison) -> None:
     """Checks a comparison: both trees are tight cut decompositions, each pair of leaves has a
     bijection that preserves adjacency both ways, and the moves turn the first tree into the
-    second, with a decomposition after each of them. Raises `Wrong`."""
+    second, with a decomposition after each of them. Raises `Wrong`.
+
+    >>> import mcg
+    >>> tree = mcg.decompose("E~rG")
+    >>> compare("E~rG", mcg.compare("E~rG", tree, tree))
+    """
     given = Given(graph)
     need(given.is_covered, "the graph is not matching covered")
     trees = Trees(given)
@@ -105,6 +111,8 @@ def compare(graph: GraphLike, report: Comparison) -> None:
     for leaf, partner, images in report.pairs:
         found = {given.bits(a): given.bits(b) for a, b in images.items()}
         _leaf_map(places[0][leaf], places[1][partner], found, leaf + 1)
+    cuts = len(places[0]) - 1
+    need(len(report.moves) <= 5 * cuts**2, f"more than {5 * cuts**2} moves for {cuts} cuts")
     node = first
     for number, move in enumerate(report.moves, 1):
         node = moved(given, node, move)
@@ -125,7 +133,12 @@ def _leaf_map(first: Place, second: Place, images: Dict[int, int], number: int) 
 
 def replay(graph: GraphLike, tree: TreeLike, moves: Sequence[Move], report: Replay) -> None:
     """Checks what `replay` reports: the tree that the moves make, or the first that fails. Raises
-    `Wrong`."""
+    `Wrong`.
+
+    >>> import mcg
+    >>> tree = mcg.decompose("E~rG")
+    >>> replay("E~rG", tree, [], mcg.replay("E~rG", tree, []))
+    """
     given = Given(graph)
     if not given.is_covered or report.reason is not None:
         need(report.result is None, "the graph is not matching covered")

@@ -3,9 +3,11 @@ from __future__ import annotations
 
 from typing import List, Optional, Sequence, Set, Tuple
 
-from ..ear_lists import Ear, Ears, EarsCheck
+from ..ear_checks import EarsCheck
+from ..ear_lists import Ear, Ears
 from ..graphs import GraphLike
 from .places import Simple
+from .single_ears import single_ear_exists
 from .structure import Given, Wrong, need, verdict
 
 # The number of a step, why it is refused, and the edge that shows it, by its place from 0.
@@ -13,16 +15,20 @@ StepFault = Tuple[int, int, Optional[int]]
 
 
 class Stages:
-    """The stages of a list of ears: the edges that are there, and the vertices that they meet."""
+    """The stages of a list of ears: the edges that are there, and the vertices that they meet. If it
+    `is_minimal`, two ears are allowed only where no ear decomposition goes on with a single one."""
 
-    def __init__(self, given: Given, listed: Ears) -> None:
-        self.given, self.listed = given, listed
+    def __init__(self, given: Given, listed: Ears, is_minimal: bool = False) -> None:
+        self.given, self.listed, self.is_minimal = given, listed, is_minimal
         self.edges = {given.graph.edge_number(listed.start) - 1}
         self.vertices = set(given.pairs[next(iter(self.edges))])
 
     def fault(self) -> Optional[StepFault]:
         """Returns the first step that breaks a rule, or the end if edges are left."""
         for number, step in enumerate(self.listed.steps, 1):
+            if self.is_minimal and len(step) == 2:
+                is_due = not single_ear_exists(self.given, self.edges, self.vertices)
+                need(is_due, f"step {number} has two ears, where a single one would do")
             why, added = self._added(step)
             if why:
                 return number, why, None
@@ -87,18 +93,27 @@ class Stages:
 
 
 def ears(graph: GraphLike, listed: Ears) -> None:
-    """Checks that a list is an ear decomposition of the graph, and that a bipartite graph has only
-    single ears. Raises `Wrong`."""
+    """Checks that a list is an ear decomposition of the graph, with two ears only where no ear
+    decomposition goes on with a single one, so never in a bipartite graph. Raises `Wrong`.
+
+    >>> import mcg
+    >>> ears("C~", mcg.ears("C~"))
+    """
     given = Given(graph)
     need(given.is_covered, "the graph is not matching covered")
-    fault = Stages(given, listed).fault()
+    fault = Stages(given, listed, is_minimal=True).fault()
     if fault:
         raise Wrong(f"step {fault[0]} breaks rule {fault[1]}")
     need(given.simple.side is None or listed.double == 0, "two ears in a bipartite graph")
 
 
 def check_ears(graph: GraphLike, listed: Ears, report: EarsCheck) -> None:
-    """Checks what `check_ears` reports of a list. Raises `Wrong`."""
+    """Checks what `check_ears` reports of a list. Raises `Wrong`.
+
+    >>> import mcg
+    >>> listed = mcg.ears("C~")
+    >>> check_ears("C~", listed, mcg.check_ears("C~", listed))
+    """
     given = Given(graph)
     if not given.is_covered or report.reason is not None:
         need(not report.accepted, "the graph is not matching covered")

@@ -6,7 +6,8 @@ from typing import Any, FrozenSet, Iterable, List, Optional
 
 from ..analysis import Analysis
 from ..graphs import Graph, GraphLike
-from ..sources import Label
+from ..labels import Label
+from .candidates import first_candidate
 from .places import Place, Simple, members
 
 
@@ -54,10 +55,15 @@ class Given:
 
 
 def analyse(graph: GraphLike, report: Analysis) -> None:
-    """Checks what `analyse` reports of a graph. Raises `Wrong`."""
+    """Checks what `analyse` reports of a graph. Raises `Wrong`.
+
+    >>> import mcg
+    >>> analyse("C~", mcg.analyse("C~"))
+    """
     given = Given(graph)
     simple = given.simple
     parts = simple.components()
+    need(report.graph == given.graph, "the graph")
     need((report.order, report.size) == (given.graph.order, given.graph.size), "order and size")
     need(report.components == len(parts), "the number of components")
     need(report.bipartite == (simple.side is not None), "bipartite")
@@ -120,19 +126,13 @@ def _structure(given: Given, report: Analysis) -> None:
     need(report.equivalent_pair == _named(given, first), "the first equivalent pair")
     need(report.cut_pair == _named(given, simple.first_cut_pair()), "the first cut pair")
     if report.kind == "composite":
-        need(report.shore is not None and is_nontrivial_tight(given, report.shore), "the shore")
+        shore = first_candidate(given.root, [(min(it), max(it)) for it in given.pairs])
+        need(report.shore is not None and shore is not None, "a composite graph has a nontrivial tight cut")
+        need(given.bits(report.shore or ()) == shore, "the shore is not that of candidate 0")
     else:
         need(report.shore is None, "a shore for a brick or a brace")
         is_it = simple.is_brick() if report.kind == "brick" else simple.is_brace()
         need(report.kind in ("brick", "brace") and is_it, f"the kind {report.kind}")
-
-
-def is_nontrivial_tight(given: Given, shore: FrozenSet[Label]) -> bool:
-    """Returns whether the shore does not hold the last vertex and its cut is tight and nontrivial."""
-    bits = given.bits(shore)
-    count = len(shore)
-    is_odd = count % 2 == 1 and count >= 3 and given.graph.order - count >= 3
-    return is_odd and not bits >> given.graph.order - 1 and given.simple.is_tight(bits)
 
 
 def _classes(given: Given) -> List[FrozenSet[Label]]:

@@ -6,6 +6,7 @@ from typing import Dict, FrozenSet, Iterator, List, NamedTuple, Optional, Tuple
 from ..decompositions import Refusal, TreeCheck
 from ..graphs import GraphLike
 from ..trees import Decomposition, Leaf, Tree, TreeLike, sides
+from .candidates import first_candidate
 from .places import Place
 from .structure import Given, Wrong, need, verdict
 
@@ -108,20 +109,41 @@ class Trees:
         if fault.why == 4:
             self._demand_matching(fault, refusal)
         elif fault.why == 5:
-            cut = self.given.bits(refusal.cut or ())
-            need(not cut >> self.given.graph.order - 1, "the shore of a cut holds the last vertex")
-            need(self.cut_fault(fault.place, cut) is None, "the cut that shows that a leaf is none")
+            due = first_candidate(fault.place, self._edges(fault.place))
+            need(self.given.bits(refusal.cut or ()) == due, "the cut of a leaf is not that of candidate 0")
+        if refusal.path is not None:
+            place = path_of(node, fault.node), None if fault.why == 5 else self.given.labels(fault.shore)
+            need((refusal.path, refusal.shore) == place, "the place of the node")
         has_shown = refusal.matching is not None, refusal.cut is not None
         need(has_shown == (fault.why == 4, fault.why == 5), "what shows a refusal")
+
+    def _edges(self, place: Place) -> List[Tuple[int, int]]:
+        """The edges of a contraction in the order of the format: those of the graph at the root, and
+        below it those of the simple graph."""
+        if place.blocks == self.given.root.blocks:
+            return [(min(it), max(it)) for it in place.pairs]
+        return [(a, b) for a, row in enumerate(place.simple.rows) for b in row if a < b]
 
     def _demand_matching(self, fault: Fault, refusal: Refusal) -> None:
         """The edges are a perfect matching of the contraction with two edges or more in the cut."""
         place, graph = fault.place, self.given.graph
         numbers = [graph.edge_number(edge) - 1 for edge in refusal.matching or ()]
+        need(numbers == sorted(numbers), "the edges of the matching in increasing order")
         ends = [[place.where[v] for v in place.pairs[k]] for k in numbers]
         need(sorted(sum(ends, [])) == list(range(len(place.blocks))), "a perfect matching")
         inside = place.inside(fault.shore) or 0
         need(sum((inside >> a ^ inside >> b) & 1 for a, b in ends) >= 2, "two edges in the cut")
+
+
+def path_of(node: Node, number: int) -> str:
+    """Returns the path to the node with this number in preorder, from 1."""
+    waiting: List[Tuple[str, Node]] = [("", node)]
+    for _ in range(number - 1):
+        path, at = waiting.pop()
+        if at is not None:
+            _shore, kept, merged = at
+            waiting += [(path + "m", merged), (path + "k", kept)]
+    return waiting.pop()[0]
 
 
 def demand_derivation(trees: Trees, node: Node) -> None:
@@ -133,7 +155,11 @@ def demand_derivation(trees: Trees, node: Node) -> None:
 
 def decompose(graph: GraphLike, decomposition: Decomposition) -> None:
     """Checks that a decomposition is a tight cut decomposition of a matching covered graph, with
-    the right leaves. Raises `Wrong`."""
+    the right leaves. Any passes, whatever the order of choice was. Raises `Wrong`.
+
+    >>> import mcg
+    >>> decompose("C~", mcg.decompose("C~"))
+    """
     given = Given(graph)
     need(given.is_covered, "the graph is not matching covered")
     trees, node = Trees(given), node_of(given, decomposition)
@@ -158,7 +184,11 @@ def _leaf(given: Given, place: Place, leaf: Leaf, number: int) -> None:
 
 
 def check(graph: GraphLike, tree: TreeLike, report: TreeCheck) -> None:
-    """Checks what `check` reports of a tree. Raises `Wrong`."""
+    """Checks what `check` reports of a tree. Raises `Wrong`.
+
+    >>> import mcg
+    >>> check("C~", mcg.Leaf(), mcg.check("C~", mcg.Leaf()))
+    """
     given = Given(graph)
     if not given.is_covered or report.reason is not None:
         need(not report.accepted, "the graph is not matching covered")

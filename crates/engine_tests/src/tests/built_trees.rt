@@ -1,12 +1,12 @@
 //! Trees by their parts: built from the shores in preorder, and compared node by node.
 ghost use Rattle.std.specs.Prelude.{◌≡◌, IfOk};
-ghost use Rattle.tree_check.specs.from_tree_core.Common.{cut, leaf, shape_of};
+ghost use Rattle.tree_core.specs.Common.{cut, leaf, shape_of};
 
 use super::made::set_of_bits;
 use graph_core::vset_core::VSet;
 use std::alloc::{AllocError as Memory, Global};
 use std::test::Fail;
-use tree_check::tree_core::Tree;
+use tree_core::Tree;
 
 /// The shores of a tree in preorder, each as a set of bits, of which that of 1 is the lowest; 0
 /// stands for a leaf.

@@ -1,12 +1,12 @@
 //! Decompositions in several orders, for the tests that need a derivation.
 ghost use Rattle.std.specs.Prelude.{◌≡◌, ◌<◌, ℕ, length, IfOk, Some};
-ghost use Rattle.tree_check.specs.from_tree_core.Common.{IsDerivation, shape_of};
+ghost use Rattle.tree_core.specs.Common.{IsDerivation, shape_of};
 
 use decomposer::{ByFunction, NamedOrder, Refused, Scripted, decompose};
 use graph_core::MultiGraph;
 use std::alloc::{AllocError as Memory, Global};
 use tree_check::tight_cuts::Candidate;
-use tree_check::tree_core::Tree;
+use tree_core::Tree;
 
 /// An order of choice.
 #[derive(Clone, Copy)]

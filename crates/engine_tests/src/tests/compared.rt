@@ -1,6 +1,6 @@
 //! Two derivations of the cycle of eight vertices: compared, their moves made again, and a shore
 //! exposed.
-ghost use Rattle.tree_check.specs.from_tree_core.Common.{IsDerivation, shape_of};
+ghost use Rattle.tree_core.specs.Common.{IsDerivation, shape_of};
 
 use super::built_trees::same_tree;
 use super::choices::{FIRST, LAST, derived};
@@ -10,8 +10,8 @@ use graph_core::vset_core::VSet;
 use plain_graph::CYCLE_OF_8;
 use std::alloc::{AllocError as Memory, Global};
 use std::test::Fail;
-use tree_check::tree_core::laws::derivation_stands_law;
-use tree_check::tree_core::{Moves, Tree, apply, copy, fits};
+use tree_core::laws::derivation_stands_law;
+use tree_core::{Moves, Tree, apply, copy, fits};
 use uncross::{compare, expose};
 
 // What the moves make of a tree, as far as they fit.

@@ -1,6 +1,6 @@
 //! Generated graphs: the quick test for bricks beside the complete search, their ear lists, and
 //! the table of pairs of a large one.
-ghost use Rattle.tree_check.specs.from_tree_core.Common.{IsDerivation, shape_of};
+ghost use Rattle.tree_core.specs.Common.{IsDerivation, shape_of};
 
 use super::choices::{FIRST, derived};
 use super::made::set_of;
@@ -15,8 +15,8 @@ use quick_kinds::quick_brick;
 use std::alloc::{AllocError as Memory, Global};
 use std::test::Fail;
 use tree_check::tight_cuts::find_any;
-use tree_check::tree_core::laws::derivation_stands_law;
-use tree_check::tree_core::{Tree, leaves};
+use tree_core::laws::derivation_stands_law;
+use tree_core::{Tree, leaves};
 
 // How many graphs were asked about, and how many of them are bricks.
 type Asked = (u32, u32);

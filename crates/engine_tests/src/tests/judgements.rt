@@ -8,8 +8,8 @@ use graph_core::{MultiGraph, Reason};
 use plain_graph::{HEXAGON, PETERSEN, PRISM, TRIANGLE_IN_K33, TWO_EDGES};
 use std::alloc::{AllocError as Memory, Global};
 use std::test::Fail;
-use tree_check::tree_core::{Move, Moves, Path, Tree, fits};
 use tree_check::{Judgement, Replayed, Why, check, replay};
+use tree_core::{Move, Moves, Path, Tree, fits};
 
 // The answer to a tree, and none where it does not fit the graph.
 fn judged(alloc: Global, g: &MultiGraph, tree: &Tree) -> Result<Option<Judgement>, Memory> {

@@ -4,7 +4,7 @@ use super::built_trees::{Shores, is_tree, one_cut, tree_of};
 use graph_core::vset_core::VSet;
 use std::alloc::Global;
 use std::test::Fail;
-use tree_check::tree_core::{Move, Moves, Path, Side, Tree, apply, fits, rotate, switch};
+use tree_core::{Move, Moves, Path, Side, Tree, apply, fits, rotate, switch};
 
 // The tree that a move makes; none where it makes none.
 fn moved(tree: Tree, n: u32, step: &Move) -> Option<Tree> {

@@ -8,7 +8,7 @@ use graph_core::vset_core::VSet;
 use plain_graph::{HEXAGON, PATH, TRIANGLE_IN_K33};
 use std::alloc::Global;
 use std::test::Fail;
-use tree_check::tree_core::Tree;
+use tree_core::Tree;
 
 // The shore of the only cut of a tree; none if it is a leaf or has more cuts.
 fn only_shore(tree: &Tree) -> Option<VSet> {

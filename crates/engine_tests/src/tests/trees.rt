@@ -1,6 +1,6 @@
 //! Small trees: their sizes, their copies and their leaves.
 ghost use Rattle.std.specs.Prelude.{◌≡◌, IfOk};
-ghost use Rattle.tree_check.specs.from_tree_core.Common.{node_count, shape_of};
+ghost use Rattle.tree_core.specs.Common.{node_count, shape_of};
 
 use super::built_trees::{Shores, cut_into, is_tree, one_cut, same_tree, tree_of};
 use super::made::set_of;
@@ -9,7 +9,7 @@ use contraction::Partition;
 use graph_core::vset_core::VSet;
 use std::alloc::{AllocError as Memory, Global};
 use std::test::Fail;
-use tree_check::tree_core::{Partitions, Path, Side, Tree, copy, depth, fits, leaves, nodes};
+use tree_core::{Partitions, Path, Side, Tree, copy, depth, fits, leaves, nodes};
 
 // The blocks of the two leaves of the hexagon with the shore 1 2 3.
 static LEAVES: [[&[u32]; 4]; 2] = [

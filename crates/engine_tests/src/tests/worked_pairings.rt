@@ -1,7 +1,7 @@
 //! Worked pairs of derivations: all moves and all maps of their comparison, and the root shore of
 //! the second exposed in the first.
 ghost use Rattle.std.specs.Prelude.{◌≡◌, IfOk, Some};
-ghost use Rattle.tree_check.specs.from_tree_core.Common.{IsDerivation, shape_of};
+ghost use Rattle.tree_core.specs.Common.{IsDerivation, shape_of};
 
 use super::built_trees::{Shores, same_tree, tree_of};
 use super::made::{made, set_of};
@@ -9,8 +9,8 @@ use graph_core::MultiGraph;
 use plain_graph::{CYCLE_OF_8, HEXAGON};
 use std::alloc::Global;
 use std::test::Fail;
-use tree_check::tree_core::{Move, Moves, Side, Tree, fits};
 use tree_check::{Judgement, check};
+use tree_core::{Move, Moves, Side, Tree, fits};
 use uncross::{LeafMaps, compare, expose};
 
 // A move: its path, and the two sets that Switch exchanges; none for Rotate.

@@ -36,6 +36,9 @@ pub enum Claim {
     Strong(&'static [u32], &'static [u32], &'static [u32]),
     /// This is so without the two ends of any edge of the matching.
     StrongEach(&'static [u32], &'static [u32]),
+    /// At each edge ab of the matching, the second set, with a in the side, the first, walks of the
+    /// digraph that begin no step at a lead from each other vertex to all but b, and back.
+    Reached(&'static [u32], &'static [u32]),
     /// Some nontrivial tight shore has the first vertex and not the second.
     Parted(u32, u32),
     /// Such steps lead from the edges to all edges of the graph.
@@ -53,6 +56,14 @@ pub enum Claim {
     EarCount(u32),
     /// Deleting one pair of the list, or two, leaves a graph with a perfect matching.
     OneOrTwo(&'static [(u32, u32)]),
+    /// The set, of vertices or of edges, has fewer than so many members.
+    Few(&'static [u32], u32),
+    /// Some perfect matching has none of these edges.
+    Avoided(&'static [u32]),
+    /// Without the vertex, maximum matchings miss the same vertices, that vertex aside.
+    Stable(u32),
+    /// Without the vertex, a maximum matching has one edge less.
+    OneLess(u32),
 }
 
 /// What a graph may be or have.
@@ -81,6 +92,10 @@ pub enum Property {
     Missed,
     /// Each vertex is an end of an edge.
     Met,
+    /// It has an even number of vertices.
+    Even,
+    /// Some matching has as many edges as some vertex cover has vertices.
+    EqualCover,
     /// It has a tight cut decomposition.
     Decomposed,
     /// Twice the number of leaves of a decomposition, and two, is at most that of the vertices.
@@ -100,6 +115,8 @@ pub enum OfNumber {
     WideCuts,
     /// Some nontrivial odd set has exactly so many edges in its cut.
     OddCut,
+    /// Each set that is neither empty nor the whole has at least so many edges in its cut.
+    EdgeConnected,
 }
 
 /// What a set of vertices may be.
@@ -111,6 +128,12 @@ pub enum OfSet {
     Half,
     /// Each set of its vertices has as many neighbours as vertices, or more.
     Hall,
+    /// Some matching meets each of its vertices.
+    Matched,
+    /// Each edge has an end in it.
+    Cover,
+    /// Without it all components have an even number of vertices.
+    EvenParts,
     /// Each nonempty set that is not the whole has at least one more.
     Surplus,
     /// Each nonempty set of all but two of its vertices, or fewer, has at least two more.
@@ -136,6 +159,15 @@ pub enum OfSet {
     Canonical,
     /// It or its complement is a component that some barrier leaves.
     LeftByBarrier,
+    /// Its cut is nontrivial and tight, and a barrier cut or a 2-separation cut.
+    ElpCut,
+    /// Such a cut does not cross its cut.
+    ElpCutBeside,
+    /// It or its complement contains a barrier with two vertices, or a component that a cut pair
+    /// leaves, with a vertex of the pair, as the shore of a nontrivial tight cut.
+    ReasonInside,
+    /// Each nontrivial tight cut that does not cross its cut is equal to it.
+    Alone,
     Separating,
     /// Each edge is in a perfect matching that has exactly one edge in its cut.
     MetOnce,

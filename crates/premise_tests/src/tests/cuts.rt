@@ -76,9 +76,10 @@ impl PairGraph {
         false
     }
 
-    pub fn is_two_edge_connected(&self) -> bool {
+    /// Whether each cut has at least so many edges, that of the whole aside.
+    pub fn is_edge_connected(&self, least: u32) -> bool {
         for set in &self.sets {
-            if *set != 0 && *set != self.all && self.cut_size(*set) < 2 {
+            if *set != 0 && *set != self.all && self.cut_size(*set) < least {
                 return false;
             }
         }

@@ -56,8 +56,13 @@ impl Claim {
                 g.is_strong_without(set_of(removed), set_of(side), set_of(matching))
             }
             Claim::StrongEach(side, matching) => g.is_strong(set_of(side), set_of(matching)),
+            Claim::Reached(side, matching) => g.reaches_all(set_of(side), set_of(matching)),
             Claim::Parted(a, b) => g.has_tight_cut(one(*a), one(*b)),
             Claim::OneOrTwo(pairs) => serve_two(g, pairs),
+            Claim::Few(set, most) => set_of(set).count_ones() < *most,
+            Claim::Avoided(edges) => g.is_avoided(set_of(edges)),
+            Claim::Stable(v) => g.is_stable(one(*v)),
+            Claim::OneLess(v) => g.is_one_less(one(*v)),
             other => other.is_seen_of_ears(g),
         }
     }
@@ -113,9 +118,11 @@ impl Property {
             Property::BarrierCut => g.has_barrier_cut(),
             Property::SeparationCut => g.has_separation_cut(),
             Property::TwoExtendable => g.is_two_extendable(),
-            Property::TwoEdgeConnected => g.is_two_edge_connected(),
+            Property::TwoEdgeConnected => g.is_edge_connected(2),
             Property::Missed => g.missed() == g.all,
             Property::Met => g.met_by(g.all_edges()) == g.all,
+            Property::Even => !is_odd(g.all),
+            Property::EqualCover => g.has_equal_cover(),
             Property::Decomposed | Property::FewLeaves => false,
         }
     }
@@ -130,6 +137,7 @@ impl OfNumber {
             OfNumber::WideOddCuts => g.has_wide_odd_cuts(number),
             OfNumber::WideCuts => g.has_wide_cuts(number),
             OfNumber::OddCut => g.has_odd_cut_of(number),
+            OfNumber::EdgeConnected => g.is_edge_connected(number),
         }
     }
 }
@@ -151,6 +159,9 @@ impl OfSet {
             OfSet::Side => g.is_side(set),
             OfSet::Half => set.count_ones() == (g.all & !set).count_ones(),
             OfSet::Hall => g.has_neighbours(set, 0),
+            OfSet::Matched => g.is_matched(set),
+            OfSet::Cover => g.is_cover(set),
+            OfSet::EvenParts => g.parts(set).1 == 0,
             OfSet::Surplus => g.has_neighbours(set, 1),
             OfSet::WideSurplus => g.has_neighbours(set, 2),
             OfSet::PairsMatched => g.are_matched(set, 1),
@@ -165,6 +176,10 @@ impl OfSet {
             OfSet::Nontrivial => g.is_nontrivial(set),
             OfSet::Canonical => !meets(set, greatest(g.all)),
             OfSet::LeftByBarrier => g.is_barrier_cut(set),
+            OfSet::ElpCut => g.is_elp_cut(set),
+            OfSet::ElpCutBeside => g.has_elp_cut_beside(set),
+            OfSet::ReasonInside => g.has_reason_inside(set),
+            OfSet::Alone => g.is_alone(set),
             OfSet::MetOnce => g.is_met_once(set),
             OfSet::InA => is_part(set, g.beside_missed()),
             OfSet::Spread => g.parts_beside(set) > set.count_ones(),

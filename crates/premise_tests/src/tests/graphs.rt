@@ -42,6 +42,9 @@ pub const DOUBLED_STAR: Given = (4, &[12, 12, 13, 13, 14, 14]);
 
 pub const TWO_TRIANGLES: Given = (6, &[12, 13, 23, 45, 46, 56]);
 
+/// The star with the centre 1 and the leaves 2, 3 and 4, the edge 56, and the vertices 7 and 8.
+pub const STAR_AND_EDGE: Given = (8, &[12, 13, 14, 56]);
+
 pub const DIAMOND: Given = (4, &[12, 13, 23, 24, 34]);
 
 pub const TWO_EDGES: Given = (4, &[12, 34]);
@@ -57,6 +60,10 @@ pub const CHORDED_CYCLE: Given = (4, &[12, 23, 34, 41, 13]);
 pub const HEXAGON: Given = (6, &[12, 23, 34, 45, 56, 61]);
 
 pub const K4: Given = (4, &[12, 13, 14, 23, 24, 34]);
+
+pub const TRIANGLE: Given = (3, &[12, 13, 23]);
+
+pub const TWO_PARALLEL: Given = (2, &[12, 12]);
 
 pub const THREE_PARALLEL: Given = (2, &[12, 12, 12]);
 
@@ -83,6 +90,9 @@ pub const LADDER: Given = (6, &[12, 23, 45, 56, 14, 25, 36]);
 
 /// Two copies of K4 sharing the edge 12.
 pub const TWO_K4: Given = (6, &[12, 13, 14, 23, 24, 34, 15, 16, 25, 26, 56]);
+
+/// A bicritical graph with the tight shore 1 5 7, whose cut is no 2-separation cut.
+pub const SHORE_NO_PART: Given = (8, &[13, 14, 15, 17, 23, 24, 25, 26, 28, 34, 57, 67, 68, 78]);
 
 pub const DISJOINT_K4: Given = (8, &[12, 13, 14, 23, 24, 34, 56, 57, 58, 67, 68, 78]);
 

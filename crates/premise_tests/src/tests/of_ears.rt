@@ -141,14 +141,14 @@ static PAIRS: [Row; 3] = [
 
 static EARS: [Row; 4] = [
     Row {
-        premises: &["two_ear_law: `pairs`, `edges`: at least one pair or edge"],
+        premises: &["two_ear_lemmas_law: `pairs`, `edges`: at least one pair or edge"],
         graph: "K2 and the empty list",
         given: K2,
         holds: &[Is(&[Covered]), Set(&[Perfect], &[]), OneOrTwo(&[(1, 2)])],
         fails: &[OneOrTwo(&[])],
     },
     Row {
-        premises: &["two_ear_law: `sides`: A is a side"],
+        premises: &["two_ear_lemmas_law: `sides`: A is a side"],
         graph: "the hexagon with A = {1}",
         given: HEXAGON,
         holds: &[Is(&[Covered])],

@@ -1,6 +1,6 @@
 //! Premises of the theorems of Berge, of Gallai, and of Gallai and Edmonds.
 
-use super::claims::Claim::{Edges, Is, Set};
+use super::claims::Claim::{Edges, Is, OneLess, Set, Stable};
 use super::claims::OfEdges::{Attains, Matching, Maximum};
 use super::claims::OfSet::{Critical, D, InA, Spread};
 use super::claims::Property::{Connected, Missed};
@@ -8,7 +8,7 @@ use super::graphs::{K2, PATH_OF_3, STAR_OF_3, TWO_TRIANGLES};
 use super::rows::{Row, all_are_so};
 use std::test::Fail;
 
-static ROWS: [Row; 5] = [
+static ROWS: [Row; 6] = [
     // the premise of the one sentence is what the other says
     Row {
         premises: &[
@@ -48,6 +48,13 @@ static ROWS: [Row; 5] = [
         given: STAR_OF_3,
         holds: &[Set(&[D], &[2, 3, 4]), Set(&[InA], &[1])],
         fails: &[Set(&[InA, Spread], &[2])],
+    },
+    Row {
+        premises: &["gallai_edmonds_law: `stable`, `one_less`: v is in A"],
+        graph: "the path with three vertices, where v is its first vertex",
+        given: PATH_OF_3,
+        holds: &[Set(&[D], &[1, 3]), Stable(2), OneLess(2)],
+        fails: &[Set(&[InA], &[1]), Stable(1), OneLess(1)],
     },
 ];
 

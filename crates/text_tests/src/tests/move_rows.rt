@@ -4,9 +4,9 @@ use super::formats::Answer::{Fault, Same, Written};
 use super::formats::{Answer, Beginning, LongText, TextRow};
 use graph_core::line_text::FaultKind::{Header, Limit, NotRising, Number, Range, Word};
 use graph_core::vset_core::VSet;
-use move_text::tree_core::{Move, Moves, Path, Side};
 use move_text::{read_moves, write_moves};
 use std::test::Fail;
+use tree_core::{Move, Moves, Path, Side};
 
 /// Moves, by the numbers of vertices for which they are read.
 pub static MOVES: [(u32, &[TextRow]); 4] = [

@@ -1,5 +1,5 @@
 use Rattle.std.proofs.Common.{arith}
-use Rattle.move_text.proofs.from_tree_core.Common.{shape_of}
+use Rattle.tree_core.proofs.Common.{shape_of}
 use Rattle.bench_outcomes.specs.from_tree_check.Common.{why_of}
 use Rattle.bench_reports.proofs.FaultsPlaced.{refused-node}
 use Rattle.bench_reports.proofs.RefusalsTold.{tree-told}

@@ -1,5 +1,5 @@
 use Rattle.move_text.proofs.from_counting.Common.{arith, length-map}
-use Rattle.move_text.proofs.from_tree_core.Common.{shape_of, fits-derivation, stands-derivation, blocks-of_leaves, few-leaves_listed, few-nodes}
+use Rattle.tree_core.proofs.Common.{shape_of, fits-derivation, stands-derivation, blocks-of_leaves, few-leaves_listed, few-nodes}
 use Rattle.bench_reports.proofs.comparing.compare_report.Goals as goal
 
 pub leaves-requires-clause-fits : goal.leaves-requires-clause-fits

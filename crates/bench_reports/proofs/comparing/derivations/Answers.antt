@@ -2,7 +2,7 @@ use Rattle.std.proofs.Common.{◌≡◌, IfOk, Result, subst, sym}
 use Rattle.std.proofs.Math.Logic.{∥∥₁_elim}
 use Rattle.graph_core.proofs.Common.{Graph}
 use Rattle.graph_core.specs.declared.verdict.Reason.{Reason}
-use Rattle.move_text.proofs.from_tree_core.Common.{Fits, shape_of}
+use Rattle.tree_core.proofs.Common.{Fits, shape_of}
 use Rattle.bench_reports.proofs.GivenFacts.{tree-fits_prop}
 use Rattle.bench_reports.proofs.comparing.derivations.Goals as goal
 

@@ -1,5 +1,5 @@
 use Rattle.move_text.proofs.from_counting.Common.{ℕ, length, sym, subst, arith, AllByRecursion, length-map}
-use Rattle.move_text.proofs.from_tree_core.Common.{move_of, moves_of, shape_of, leaf_count-cuts, node_count-cuts, few-nodes}
+use Rattle.tree_core.proofs.Common.{move_of, moves_of, shape_of, leaf_count-cuts, node_count-cuts, few-nodes}
 use Rattle.move_text.specs.Common.{HasSets}
 use Rattle.bench_reports.proofs.ScriptMoves.{few-moves, script-paths, script-sets}
 use Rattle.bench_reports.proofs.ScriptTexts.{scripted}

@@ -1,5 +1,5 @@
 use Rattle.std.proofs.Common.{[], ◌∷◌, refl}
-use Rattle.move_text.proofs.from_tree_core.Common.{shape_of}
+use Rattle.tree_core.proofs.Common.{shape_of}
 use Rattle.bench_reports.proofs.comparing.refusal_of_covered.Goals as goal
 
 pub returns-in-Some-clause-placed : goal.returns-in-Some-clause-placed

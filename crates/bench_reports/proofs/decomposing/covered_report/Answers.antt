@@ -1,7 +1,7 @@
 use Rattle.move_text.proofs.from_counting.Common.{◌≡◌, map, subst, inl, IfOk-weaker}
 use Rattle.graph_core.proofs.Common.{Graph}
 use Rattle.graph_text.specs.Common.{named_graph}
-use Rattle.move_text.proofs.from_tree_core.Common.{IsDerivation, leaves, place_of, shape_of}
+use Rattle.tree_core.proofs.Common.{IsDerivation, leaves, place_of, shape_of}
 use Rattle.bench_outcomes.specs.from_decomposer.Common.{IsPicked}
 use Rattle.bench_outcomes.specs.Common.{DecomposeGives, TellsDerivation}
 use Rattle.bench_outcomes.specs.declared.report.Report.{Report}

@@ -1,6 +1,6 @@
 use Rattle.move_text.proofs.from_counting.Common.{◌≡◌, ◌∙◌, ap, length, refl, arith, length-map}
 use Rattle.graph_text.specs.Common.{named_graph}
-use Rattle.move_text.proofs.from_tree_core.Common.{leaves, place_of, shape_of, fits-derivation, stands-derivation, few-nodes, leaf_count-cuts, length-leaves_at, node_count-cuts}
+use Rattle.tree_core.proofs.Common.{leaves, place_of, shape_of, fits-derivation, stands-derivation, few-nodes, leaf_count-cuts, length-leaves_at, node_count-cuts}
 use Rattle.graph_core.proofs.Common.{singles}
 use Rattle.bench_outcomes.proofs.DerivationTexts.{has-vertices, told}
 use Rattle.bench_reports.proofs.decomposing.derivation_report.Goals as goal

@@ -1,5 +1,5 @@
 use Rattle.move_text.proofs.from_counting.Common.{arith, length-map}
-use Rattle.move_text.proofs.from_tree_core.Common.{leaf_count-cuts, length-leaves_at, node_count-cuts, few-nodes}
+use Rattle.tree_core.proofs.Common.{leaf_count-cuts, length-leaves_at, node_count-cuts, few-nodes}
 use Rattle.uncross.specs.Common.{map_of}
 use Rattle.bench_outcomes.proofs.GrownSizes.{few-edges, few-vertices}
 use Rattle.bench_reports.proofs.growing.grow_report.Goals as goal

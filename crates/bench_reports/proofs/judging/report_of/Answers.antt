@@ -1,6 +1,6 @@
 use Rattle.std.proofs.Math.Logic.{∥∥₁_elim}
 use Rattle.graph_core.proofs.Common.{size}
-use Rattle.move_text.proofs.from_tree_core.Common.{shape_of}
+use Rattle.tree_core.proofs.Common.{shape_of}
 use Rattle.ear_text.specs.from_ear_core.Common.{ears_of}
 use Rattle.bench_reports.proofs.GivenFacts.{ears-fit_prop, tree-fits_prop}
 use Rattle.bench_reports.proofs.judging.report_of.Goals as goal

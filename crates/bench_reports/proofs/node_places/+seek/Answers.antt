@@ -1,6 +1,6 @@
 use Rattle.std.proofs.Common.{◌≡◌, ℕ, suc, ◌-◌, ◌<◌, ◌++◌, ◌∷◌, [], arith}
-use Rattle.move_text.proofs.from_tree_core.Common.{shape_of}
-use Rattle.move_text.specs.from_tree_core.declared.path.Side.TheVariants.{Kept, Merged}
+use Rattle.tree_core.proofs.Common.{shape_of}
+use Rattle.tree_core.specs.declared.path.Side.TheVariants.{Kept, Merged}
 use Rattle.bench_reports.proofs.NodeSearches.{found-here, found-kept, found-merged}
 use Rattle.bench_reports.proofs.node_places.+seek.Goals as goal
 

@@ -1,6 +1,6 @@
 use Rattle.std.proofs.Common.{◌≡◌, ◌∙◌, ◌-◌, Some, ap, sym, arith, option_map}
 use Rattle.std.proofs.lemmas.Option.{none-some}
-use Rattle.move_text.proofs.from_tree_core.Common.{moves_of, shape_of}
+use Rattle.tree_core.proofs.Common.{moves_of, shape_of}
 use Rattle.bench_outcomes.specs.Common.{made_by}
 use Rattle.bench_reports.proofs.MadeMoves.{next-less, next-made, stuck-by}
 use Rattle.bench_reports.proofs.replaying.fault_of_move.Goals as goal

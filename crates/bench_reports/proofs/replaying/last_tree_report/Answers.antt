@@ -1,6 +1,6 @@
 use Rattle.std.proofs.Common.{arith}
 use Rattle.graph_core.proofs.Common.{singles}
-use Rattle.move_text.proofs.from_tree_core.Common.{shape_of, fits-derivation, stands-derivation, few-nodes}
+use Rattle.tree_core.proofs.Common.{shape_of, fits-derivation, stands-derivation, few-nodes}
 use Rattle.bench_outcomes.proofs.DerivationTexts.{has-vertices}
 use Rattle.bench_reports.proofs.replaying.last_tree_report.Goals as goal
 

@@ -1,5 +1,5 @@
 use Rattle.std.proofs.Common.{◌<◌, ◌≤◌, length, arith}
-use Rattle.move_text.proofs.from_tree_core.Common.{move_of, shape_of}
+use Rattle.tree_core.proofs.Common.{move_of, shape_of}
 use Rattle.bench_outcomes.proofs.from_tree_check.MovesFit.{move-fits}
 use Rattle.bench_reports.proofs.MadeMoves.{made-next, made-none, made-stuck}
 use Rattle.bench_reports.proofs.replaying.made_by.Goals as goal

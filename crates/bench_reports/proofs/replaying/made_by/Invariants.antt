@@ -1,5 +1,5 @@
 use Rattle.std.proofs.Common.{◌≡◌, ◌-◌, drop}
-use Rattle.move_text.proofs.from_tree_core.Common.{Fits, moves_of, shape_of}
+use Rattle.tree_core.proofs.Common.{Fits, moves_of, shape_of}
 use Rattle.bench_outcomes.specs.Common.{made_by}
 use Rattle.bench_reports.proofs.replaying.made_by.Given as goal
 

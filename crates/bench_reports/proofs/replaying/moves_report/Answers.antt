@@ -1,5 +1,5 @@
 use Rattle.std.proofs.Common.{subst, arith}
-use Rattle.move_text.proofs.from_tree_core.Common.{fits-derivation, moves_of, shape_of}
+use Rattle.tree_core.proofs.Common.{fits-derivation, moves_of, shape_of}
 use Rattle.bench_outcomes.specs.from_tree_check.Common.{IsReplay, why_of}
 use Rattle.bench_outcomes.specs.from_tree_check.declared.replaying.Replayed.{Replayed}
 use Rattle.bench_outcomes.proofs.from_tree_check.ReplaySteps.{reached-derivation}

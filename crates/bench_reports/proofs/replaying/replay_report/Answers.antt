@@ -1,5 +1,5 @@
 use Rattle.std.proofs.Common.{[], ◌∷◌, refl}
-use Rattle.move_text.proofs.from_tree_core.Common.{moves_of, shape_of}
+use Rattle.tree_core.proofs.Common.{moves_of, shape_of}
 use Rattle.bench_reports.proofs.FaultsPlaced.{tree-moves}
 use Rattle.bench_reports.proofs.replaying.replay_report.Goals as goal
 

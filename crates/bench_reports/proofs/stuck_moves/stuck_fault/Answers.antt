@@ -1,6 +1,6 @@
 use Rattle.std.proofs.Common.{rules}
 use Rattle.refusals.specs.declared.faults.StuckFault.TheVariants.{Crossing}
-use Rattle.move_text.specs.from_tree_core.Common.{move_of, shape_of}
+use Rattle.tree_core.specs.Common.{move_of, shape_of}
 use Rattle.bench_reports.proofs.NestedShores.{never_crossing}
 use Rattle.bench_reports.proofs.stuck_moves.stuck_fault.Goals as goal
 

@@ -1,6 +1,6 @@
 use Rattle.move_text.proofs.from_counting.Common.{[], ◌∷◌, refl}
 use Rattle.graph_text.specs.Common.{named_graph}
-use Rattle.move_text.proofs.from_tree_core.Common.{shape_of}
+use Rattle.tree_core.proofs.Common.{shape_of}
 use Rattle.bench_tasks.specs.Common.{graph_file, loaded_as, tree_file, place_name, given_tree}
 use Rattle.bench_tasks.proofs.AnswersMade.{answered-both, answered-stopped, answered-stopped-second}
 use Rattle.bench_tasks.proofs.SizesCarried.{carries-sizes, gave-sizes}

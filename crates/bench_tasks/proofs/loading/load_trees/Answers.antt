@@ -1,5 +1,5 @@
 use Rattle.move_text.proofs.from_counting.Common.{[], ◌∷◌, refl}
-use Rattle.move_text.proofs.from_tree_core.Common.{shape_of}
+use Rattle.tree_core.proofs.Common.{shape_of}
 use Rattle.bench_tasks.specs.Common.{loaded_as, tree_file, tree_given, place_name, given_tree, given_trees}
 use Rattle.bench_tasks.proofs.AnswersMade.{answered-both, answered-stopped, answered-stopped-second}
 use Rattle.bench_tasks.proofs.loading.load_trees.Goals as goal

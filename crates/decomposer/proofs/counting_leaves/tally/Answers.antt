@@ -1,5 +1,5 @@
 use Rattle.std.proofs.Common.{arith}
-use Rattle.tight_cuts.proofs.from_tree_core.Common.{few-nodes, leaf_count-cuts, leaves, length-leaves_at, node_count-cuts, shape_of}
+use Rattle.tree_core.proofs.Common.{few-nodes, leaf_count-cuts, leaves, length-leaves_at, node_count-cuts, shape_of}
 use Rattle.decomposer.proofs.counting_leaves.tally.Goals as goal
 
 pub tallied-requires : goal.tallied-requires

@@ -1,5 +1,5 @@
 use Rattle.std.proofs.Common.{ap, length, arith, rules}
-use Rattle.tight_cuts.proofs.from_tree_core.Common.{cut_count, shape_of, blocks-below}
+use Rattle.tree_core.proofs.Common.{cut_count, shape_of, blocks-below}
 use Rattle.decomposer.proofs.Picking.{cut-finds}
 use Rattle.decomposer.proofs.decomposition.+decomposing.Goals as goal
 

@@ -1,5 +1,5 @@
 use Rattle.std.proofs.Common.{ap₂}
-use Rattle.tight_cuts.proofs.from_tree_core.Common.{cut, shape_of}
+use Rattle.tree_core.proofs.Common.{cut, shape_of}
 use Rattle.decomposer.proofs.decomposition.cut_tree.Goals as goal
 
 pub returns : goal.returns

@@ -1,6 +1,6 @@
 use Rattle.graph_core.proofs.from_counting.Common.{ℕ, All, List, [], ap, sym, subst, ◌∙◌, slice_get, unwrap_or, Option, eqb-true, arith, nil_from_length, none-some}
 use Rattle.tight_cuts.specs.Common.{Candidate, IsCandidateAt, candidate_of}
-use Rattle.tight_cuts.proofs.from_tree_core.Common.{IsCutAt}
+use Rattle.tree_core.proofs.Common.{IsCutAt}
 use Rattle.decomposer.proofs.Picking.{picked-shore, some-stored, stored-length}
 use Rattle.decomposer.proofs.shores.listed_shore.Goals as goal
 

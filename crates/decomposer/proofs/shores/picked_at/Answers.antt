@@ -1,5 +1,5 @@
 use Rattle.std.proofs.Common.{rules}
-use Rattle.tight_cuts.proofs.from_tree_core.Common.{IsLeafAt}
+use Rattle.tree_core.proofs.Common.{IsLeafAt}
 use Rattle.decomposer.proofs.Picking.{first-picked}
 use Rattle.decomposer.proofs.shores.picked_at.Goals as goal
 

@@ -1,6 +1,6 @@
 use Rattle.graph_core.proofs.from_counting.Common.{List, Option, [], ℕ, ap, refl, sym, subst, ◌∙◌, unwrap_or, arith, option_map, none-some}
 use Rattle.tight_cuts.specs.Common.{candidates_at, candidate_of}
-use Rattle.tight_cuts.proofs.from_tree_core.Common.{IsCutAt}
+use Rattle.tree_core.proofs.Common.{IsCutAt}
 use Rattle.tight_cuts.proofs.FirstCandidates.{first-place}
 use Rattle.decomposer.proofs.Picking.{cut-from_candidate}
 use Rattle.decomposer.proofs.shores.shore_of.Goals as goal

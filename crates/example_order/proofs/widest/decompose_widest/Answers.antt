@@ -1,4 +1,4 @@
-use Rattle.tree_check.proofs.from_tree_core.Common.{shape_of, fits-derivation}
+use Rattle.tree_core.proofs.Common.{shape_of, fits-derivation}
 use Rattle.tree_check.proofs.ThreeAnswers.{accepted-exactly}
 use Rattle.example_order.proofs.widest.decompose_widest.Goals as goal
 

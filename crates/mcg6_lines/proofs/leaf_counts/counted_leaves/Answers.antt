@@ -1,6 +1,6 @@
-use Rattle.move_laws.proofs.from_tree_core.Common.{shape_of, IsTally, leaves}
+use Rattle.tree_core.proofs.Common.{shape_of, IsTally, leaves}
 use Rattle.allowed_edges.proofs.from_counting.Common.{IfOk-weaker}
-use Rattle.move_laws.specs.from_tree_core.declared.tallies.Tally.{Tally}
+use Rattle.tree_core.specs.declared.tallies.Tally.{Tally}
 use Rattle.mcg6_lines.specs.Standings.{IsCounted}
 use Rattle.mcg6_lines.proofs.leaf_counts.counted_leaves.Goals as goal
 

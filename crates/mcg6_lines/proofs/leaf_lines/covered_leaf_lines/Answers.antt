@@ -1,5 +1,5 @@
 use Rattle.std.proofs.Common.{◌∙◌, arith}
-use Rattle.move_laws.proofs.from_tree_core.Common.{leaves, shape_of}
+use Rattle.tree_core.proofs.Common.{leaves, shape_of}
 use Rattle.mcg6_lines.proofs.leaf_lines.covered_leaf_lines.Goals as goal
 
 pub lines_of_leaves-requires : goal.lines_of_leaves-requires

@@ -1,6 +1,6 @@
 use Rattle.allowed_edges.proofs.from_counting.Common.{◌<◌, length, arith, drop_all, append-nil, get_or_read, length-map}
-use Rattle.move_laws.proofs.from_tree_core.Common.{place_of}
-use Rattle.move_laws.specs.from_tree_core.declared.tallies.LeafKind.TheVariants.{Brick}
+use Rattle.tree_core.proofs.Common.{place_of}
+use Rattle.tree_core.specs.declared.tallies.LeafKind.TheVariants.{Brick}
 use Rattle.mcg6_lines.proofs.LeafTexts.{lines_further}
 use Rattle.mcg6_lines.proofs.leaf_lines.lines_of_leaves.Goals as goal
 

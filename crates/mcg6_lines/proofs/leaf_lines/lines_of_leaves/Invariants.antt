@@ -1,6 +1,6 @@
 use Rattle.std.proofs.Common.{◌≡◌, ◌++◌, ℕ, List, drop, map}
 use Rattle.graph_core.proofs.Common.{Graph}
-use Rattle.move_laws.proofs.from_tree_core.Common.{place_of}
+use Rattle.tree_core.proofs.Common.{place_of}
 use Rattle.mcg6_lines.specs.LeafLines.{leaf_lines}
 use Rattle.mcg6_lines.proofs.leaf_lines.lines_of_leaves.Given as goal
 

@@ -1,5 +1,5 @@
 use Rattle.theorems.proofs.Quotients.{bricks-and_braces}
-use Rattle.tree_check.proofs.from_tree_core.Common.{tight-shores}
+use Rattle.tree_core.proofs.Common.{tight-shores}
 use Rattle.theorems.proofs.decompositions.bricks_and_braces_law.Goals as goal
 
 pub returns : goal.returns

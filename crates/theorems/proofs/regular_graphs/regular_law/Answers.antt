@@ -1,4 +1,5 @@
 use Rattle.theorems.proofs.CubicGraphs.{two_edge_or_wide}
+use Rattle.theorems.proofs.DeletedEdges.{connected_wide, deleted}
 use Rattle.theorems.proofs.RegularCuts.{tight_size, wide_trivial}
 use Rattle.theorems.proofs.RegularMatchings.{regular_allowed, regular_covered}
 use Rattle.theorems.proofs.RegularSides.{brace_or_narrow, narrow_tight, sides_wide}
@@ -27,3 +28,9 @@ returns-clause-brace c r g a is regular some two = brace_or_narrow r g is regula
 
 pub returns-clause-cubic : goal.returns-clause-cubic
 returns-clause-cubic c g is cubic = two_edge_or_wide g is.ends cubic
+
+pub returns-clause-deleted : goal.returns-clause-deleted
+returns-clause-deleted c r g f is regular wide few = deleted r g f is regular wide few
+
+pub returns-clause-connected : goal.returns-clause-connected
+returns-clause-connected c r g is regular even connected = connected_wide r g is regular even connected

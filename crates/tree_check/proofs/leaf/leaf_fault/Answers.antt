@@ -1,4 +1,4 @@
-use Rattle.move_laws.proofs.from_tree_core.Common.{IsLeafAt}
+use Rattle.tree_core.proofs.Common.{IsLeafAt}
 use Rattle.tree_check.proofs.leaf.leaf_fault.Goals as goal
 
 pub returns-in-None-clause-none : goal.returns-in-None-clause-none

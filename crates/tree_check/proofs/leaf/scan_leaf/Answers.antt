@@ -1,6 +1,6 @@
 use Rattle.std.proofs.Common.{List, ℕ, subst, subst₂, sym}
 use Rattle.graph_core.proofs.Common.{Graph}
-use Rattle.move_laws.proofs.from_tree_core.Common.{IsLeafAt, IsLeafKind, PlaceValue}
+use Rattle.tree_core.proofs.Common.{IsLeafAt, IsLeafKind, PlaceValue}
 use Rattle.tree_check.proofs.KnownValues.{place-is}
 use Rattle.tree_check.proofs.leaf.scan_leaf.Goals as goal
 

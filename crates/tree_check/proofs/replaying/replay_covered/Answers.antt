@@ -1,5 +1,5 @@
 use Rattle.std.proofs.Common.{arith}
-use Rattle.move_laws.proofs.from_tree_core.Common.{shape_of}
+use Rattle.tree_core.proofs.Common.{shape_of}
 use Rattle.tree_check.proofs.ReplaySteps.{reached-derivation, refused_move-next, stuck-next, turns-next}
 use Rattle.tree_check.proofs.replaying.replay_covered.Goals as goal
 

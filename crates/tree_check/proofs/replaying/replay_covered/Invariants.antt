@@ -1,5 +1,5 @@
 use Rattle.std.proofs.Common.{take}
-use Rattle.move_laws.proofs.from_tree_core.Common.{TurnsThrough, moves_of, shape_of}
+use Rattle.tree_core.proofs.Common.{TurnsThrough, moves_of, shape_of}
 use Rattle.tree_check.proofs.replaying.replay_covered.Given as goal
 
 -- the first moves turn the tree through derivations into the one that is reached

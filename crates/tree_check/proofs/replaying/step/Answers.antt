@@ -1,5 +1,5 @@
 use Rattle.std.proofs.Common.{◌≡◌, Some, subst, arith}
-use Rattle.move_laws.proofs.from_tree_core.Common.{fits-derivation, move_result, move_of, shape_of}
+use Rattle.tree_core.proofs.Common.{fits-derivation, move_result, move_of, shape_of}
 use Rattle.tree_check.proofs.MovesFit.{move-fits}
 use Rattle.tree_check.proofs.replaying.step.Goals as goal
 

@@ -1,7 +1,7 @@
 use Rattle.std.proofs.Common.{ℕ, rules, arith, ◌+◌, ◌*◌, ◌≤◌, ◌≡◌, ◌∙◌, length, sym, subst}
 use Rattle.graph_core.proofs.Common.{Graph}
-use Rattle.move_laws.proofs.from_tree_core.Common.{Fits, IsCutAt, cut, kept_at, merged_at, shape_of}
-use Rattle.move_laws.specs.from_tree_core.declared.tallies.Tally.{Tally}
+use Rattle.tree_core.proofs.Common.{Fits, IsCutAt, cut, kept_at, merged_at, shape_of}
+use Rattle.tree_core.specs.declared.tallies.Tally.{Tally}
 use Rattle.tree_check.specs.Common.{IsScannedAt}
 use Rattle.tree_check.specs.declared.judgement.Scanned.{Scanned}
 use Rattle.tree_check.specs.declared.judgement.Scanned.TheVariants as scanned

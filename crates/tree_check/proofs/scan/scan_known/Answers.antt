@@ -1,6 +1,6 @@
 use Rattle.std.proofs.Common.{◌∙◌, ap, subst, arith}
 use Rattle.graph_core.proofs.Common.{Graph, IsCovered, length-singles, singles}
-use Rattle.move_laws.proofs.from_tree_core.Common.{shape_of}
+use Rattle.tree_core.proofs.Common.{shape_of}
 use Rattle.tree_check.proofs.Scanning.{found-at, scanned-root}
 use Rattle.tree_check.proofs.scan.scan_known.Goals as goal
 

@@ -1,5 +1,5 @@
 use Rattle.graph_core.proofs.from_counting.Common.{IsTrue, ap, arith, IfOk-weaker}
-use Rattle.move_laws.proofs.from_tree_core.Common.{IsCutAt, IsDerivationAt, shape_of}
+use Rattle.tree_core.proofs.Common.{IsCutAt, IsDerivationAt, shape_of}
 use Rattle.tree_check.proofs.SoundMoves.{switched-here, switched-kept, switched-merged}
 use Rattle.tree_check.specs.Common.{IsBlock}
 use Rattle.tree_check.proofs.sound_moves.+is_sound_switch.Goals as goal

@@ -1,6 +1,6 @@
 use Rattle.std.proofs.Common.{arith}
 use Rattle.move_laws.proofs.Uniqueness.{rotate_derives_law}
-use Rattle.move_laws.proofs.from_tree_core.Common.{fits-derivation}
+use Rattle.tree_core.proofs.Common.{fits-derivation}
 use Rattle.tree_check.proofs.MovesFit.{move-fits}
 use Rattle.tree_check.proofs.sound_moves.is_sound.Goals as goal
 

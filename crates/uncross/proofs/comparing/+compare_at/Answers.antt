@@ -1,7 +1,7 @@
 use Rattle.std.proofs.Common.{◌*◌, ◌≤◌, ap, arith, length, refl, subst, sym, ℕ}
 use Rattle.graph_core.proofs.Common.{Graph}
-use Rattle.move_laws.proofs.from_tree_core.Common.{IsDerivationAt, moves_of, cut_count, node_count, shape_of}
-use Rattle.move_laws.specs.from_tree_core.declared.tree.Tree.{Tree}
+use Rattle.tree_core.proofs.Common.{IsDerivationAt, moves_of, cut_count, node_count, shape_of}
+use Rattle.tree_core.specs.declared.tree.Tree.{Tree}
 use Rattle.uncross.proofs.CompareSteps.{IsCompared, both_leaves, compared}
 use Rattle.move_laws.specs.Common.{IsProperScript}
 use Rattle.uncross.proofs.comparing.+compare_at.Goals as goal

@@ -1,4 +1,4 @@
-use Rattle.move_laws.proofs.from_tree_core.Common.{node_count, shape_of}
+use Rattle.tree_core.proofs.Common.{node_count, shape_of}
 use Rattle.uncross.proofs.comparing.+compare_at.Given as goal
 
 abbrev pub decreases-compare_at : goal.decreases-compare_at

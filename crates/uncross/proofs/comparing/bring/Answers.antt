@@ -1,5 +1,5 @@
 use Rattle.std.proofs.Common.{ap, arith}
-use Rattle.move_laws.proofs.from_tree_core.Common.{shape_of}
+use Rattle.tree_core.proofs.Common.{shape_of}
 use Rattle.uncross.proofs.ExposedShores.{brought_no_leaf}
 use Rattle.uncross.proofs.comparing.bring.Goals as goal
 

@@ -1,6 +1,6 @@
 use Rattle.std.proofs.Common.{ap, ◌∙◌, arith}
 use Rattle.graph_core.proofs.Common.{Graph}
-use Rattle.move_laws.proofs.from_tree_core.Common.{moves_of, script_maps, shape_of}
+use Rattle.tree_core.proofs.Common.{moves_of, script_maps, shape_of}
 use Rattle.uncross.proofs.ScriptSteps.{derivation_script_pairs}
 use Rattle.uncross.proofs.comparing.compare_covered.Goals as goal
 

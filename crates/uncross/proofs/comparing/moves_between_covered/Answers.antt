@@ -1,5 +1,5 @@
 use Rattle.std.proofs.Common.{arith}
-use Rattle.move_laws.proofs.from_tree_core.Common.{moves_of, shape_of}
+use Rattle.tree_core.proofs.Common.{moves_of, shape_of}
 use Rattle.move_laws.proofs.Uniqueness.{script_through}
 use Rattle.uncross.proofs.comparing.moves_between_covered.Goals as goal
 

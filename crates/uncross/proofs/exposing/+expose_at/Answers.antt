@@ -1,7 +1,7 @@
 use Rattle.std.proofs.Common.{ap, arith, option_map, refl, subst, sym, ◌∙◌}
 use Rattle.graph_core.proofs.Common.{Graph}
-use Rattle.move_laws.proofs.from_tree_core.Common.{IsDerivationAt, node_count, moves_of, shape_of}
-use Rattle.move_laws.specs.from_tree_core.declared.tree.Tree.{Tree}
+use Rattle.tree_core.proofs.Common.{IsDerivationAt, node_count, moves_of, shape_of}
+use Rattle.tree_core.specs.declared.tree.Tree.{Tree}
 use Rattle.uncross.proofs.ExposeSteps.{asks_kept, asks_merged, both_fit, leaf_exposes, whole_exposed}
 use Rattle.uncross.specs.Common.{plan_of, CutIf, IsExposed, turned_of}
 use Rattle.uncross.proofs.exposing.+expose_at.Goals as goal

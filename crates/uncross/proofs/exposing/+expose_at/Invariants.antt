@@ -1,4 +1,4 @@
-use Rattle.move_laws.proofs.from_tree_core.Common.{node_count, shape_of}
+use Rattle.tree_core.proofs.Common.{node_count, shape_of}
 use Rattle.uncross.proofs.exposing.+expose_at.Given as goal
 
 abbrev pub decreases-expose_at : goal.decreases-expose_at

@@ -1,7 +1,7 @@
 use Rattle.std.proofs.Common.{◌≡◌, ◌∙◌, List, None, Option, Some, ap, arith, unwrap_or, ℕ, option_map}
 use Rattle.graph_core.proofs.Common.{Graph, singles}
-use Rattle.move_laws.proofs.from_tree_core.Common.{PlaceValue, Shape, moves_of, shape_of}
-use Rattle.move_laws.specs.from_tree_core.declared.moves.Move.{Move}
+use Rattle.tree_core.proofs.Common.{PlaceValue, Shape, moves_of, shape_of}
+use Rattle.tree_core.specs.declared.moves.Move.{Move}
 use Rattle.uncross.specs.Common.{IsExposed, IsRaised}
 use Rattle.uncross.proofs.exposing.bring_up.Goals as goal
 

@@ -1,5 +1,5 @@
 use Rattle.std.proofs.Common.{arith, subst, sym}
-use Rattle.move_laws.proofs.from_tree_core.Common.{IsDerivation}
+use Rattle.tree_core.proofs.Common.{IsDerivation}
 use Rattle.uncross.proofs.ScriptSteps.{script_derives, derivation_script_pairs}
 use Rattle.move_laws.proofs.Uniqueness.{script_through}
 use Rattle.uncross.proofs.exposing.expose.Goals as goal

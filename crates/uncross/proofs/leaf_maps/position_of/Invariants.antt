@@ -1,5 +1,5 @@
 use Rattle.std.proofs.Common.{◌≡◌, ◌+◌, drop}
-use Rattle.move_laws.proofs.from_tree_core.Common.{position}
+use Rattle.tree_core.proofs.Common.{position}
 use Rattle.uncross.proofs.leaf_maps.position_of.Given as goal
 
 abbrev pub invariant-loop-k : goal.invariant-loop-k

@@ -1,7 +1,7 @@
 use Rattle.std.proofs.Common.{ap, sym, ◌∙◌, ◌++◌, List, ℕ}
 use Rattle.std.proofs.lemmas.Result.{on_ok_weaker}
-use Rattle.move_laws.proofs.from_tree_core.Common.{move_order, move_of, shape_of}
-use Rattle.move_laws.specs.from_tree_core.declared.moves.Move.{Move}
+use Rattle.tree_core.proofs.Common.{move_order, move_of, shape_of}
+use Rattle.tree_core.specs.declared.moves.Move.{Move}
 use Rattle.uncross.proofs.ParentPaths.{rotated-order}
 use Rattle.uncross.proofs.leaf_orders.push_move_order.Goals as goal
 

@@ -1,5 +1,5 @@
 use Rattle.std.proofs.Common.{◌≡◌, ◌+◌, ◌++◌, length}
-use Rattle.move_laws.proofs.from_tree_core.Common.{numbers}
+use Rattle.tree_core.proofs.Common.{numbers}
 use Rattle.uncross.proofs.leaf_orders.push_numbers.Given as goal
 
 abbrev pub invariant-loop-i : goal.invariant-loop-i

@@ -1,5 +1,5 @@
 use Rattle.std.proofs.Common.{List, ap, map, ℕ, ◌∙◌}
-use Rattle.move_laws.proofs.from_tree_core.Common.{move_of, shape_of}
+use Rattle.tree_core.proofs.Common.{move_of, shape_of}
 use Rattle.uncross.proofs.FollowedMaps.{into_if, led}
 use Rattle.uncross.specs.Common.{map_after, maps_of}
 use Rattle.uncross.proofs.move_maps.maps_onward.Goals as goal

@@ -1,6 +1,6 @@
 use Rattle.std.proofs.Common.{◌∙◌, arith}
 use Rattle.std.specs.Vec.Iter.{into_iter_items}
-use Rattle.move_laws.proofs.from_tree_core.Common.{shape_of}
+use Rattle.tree_core.proofs.Common.{shape_of}
 use Rattle.uncross.proofs.OwnMaps.{own-first, own-next}
 use Rattle.uncross.proofs.move_maps.own_maps.Goals as goal
 

@@ -1,7 +1,7 @@
 -- The maps of the first leaves, followed by those of the rest, are all of them.
 use Rattle.std.proofs.Common.{length}
 use Rattle.std.specs.Vec.Iter.{into_iter_items}
-use Rattle.move_laws.proofs.from_tree_core.Common.{own_maps, leaf_count, shape_of}
+use Rattle.tree_core.proofs.Common.{own_maps, leaf_count, shape_of}
 use Rattle.uncross.proofs.OwnMaps.{IsOwnSoFar}
 use Rattle.uncross.proofs.move_maps.own_maps.Given as goal
 

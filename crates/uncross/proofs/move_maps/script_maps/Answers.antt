@@ -1,5 +1,5 @@
 use Rattle.std.proofs.Common.{ap}
-use Rattle.move_laws.proofs.from_tree_core.Common.{move_of, moves_of, shape_of}
+use Rattle.tree_core.proofs.Common.{move_of, moves_of, shape_of}
 use Rattle.uncross.proofs.ScriptSteps.{fits, leads, leaves-few, stands, start, step}
 use Rattle.uncross.specs.Common.{maps_of}
 use Rattle.uncross.proofs.move_maps.script_maps.Goals as goal

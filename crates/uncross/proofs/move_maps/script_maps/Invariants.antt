@@ -1,7 +1,7 @@
 -- The tree is a derivation, the moves left lead on from it, and the maps so far are those of the
 -- moves made.
 use Rattle.std.proofs.Common.{length}
-use Rattle.move_laws.proofs.from_tree_core.Common.{moves_of, shape_of}
+use Rattle.tree_core.proofs.Common.{moves_of, shape_of}
 use Rattle.uncross.proofs.ScriptSteps.{Remains}
 use Rattle.uncross.specs.Common.{maps_of}
 use Rattle.uncross.proofs.move_maps.script_maps.Given as goal

@@ -1,6 +1,6 @@
 use Rattle.graph_core.proofs.from_counting.Common.{refl, subst, sym, IsRisingIn}
 use Rattle.graph_core.proofs.Common.{complement_of-rises}
-use Rattle.move_laws.proofs.from_tree_core.Common.{is-complement}
+use Rattle.tree_core.proofs.Common.{is-complement}
 use Rattle.uncross.proofs.plans.complement.Goals as goal
 
 pub returns-clause-list : goal.returns-clause-list

@@ -1,5 +1,5 @@
 use Rattle.std.proofs.Common.{◌≡◌, ◌++◌, map, length}
-use Rattle.move_laws.proofs.from_tree_core.Common.{below, moves_of}
+use Rattle.tree_core.proofs.Common.{below, moves_of}
 use Rattle.uncross.proofs.turning.append_below.Given as goal
 
 -- the moves appended and those left are all

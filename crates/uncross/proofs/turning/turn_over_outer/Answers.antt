@@ -1,5 +1,5 @@
 use Rattle.std.proofs.Common.{ap, subst, Some, option_map, ◌≡◌}
-use Rattle.move_laws.proofs.from_tree_core.Common.{moves_of, shape_of}
+use Rattle.tree_core.proofs.Common.{moves_of, shape_of}
 use Rattle.uncross.proofs.TurningSteps.{after_raised}
 use Rattle.move_laws.specs.Common.{over_outer, raised_merged, switched_below}
 use Rattle.uncross.proofs.turning.turn_over_outer.Goals as goal

@@ -1,6 +1,6 @@
 use Rattle.move_text.proofs.from_counting.Common.{ℕ, subst, arith, length-map}
 use Rattle.graph_core.specs.from_line_text.Common.{ReadsText, reading_of}
-use Rattle.move_text.proofs.from_tree_core.Common.{moves_of}
+use Rattle.tree_core.proofs.Common.{moves_of}
 use Rattle.move_text.specs.Common.{move_format}
 use Rattle.bench_tasks.proofs.TextReads.{ReadsText-reading_of}
 use Rattle.bench_tasks.proofs.formats.MoveFileFileFormat.read.Goals as goal

@@ -1,6 +1,6 @@
 use Rattle.std.proofs.Common.{ℕ, subst}
 use Rattle.graph_core.specs.from_line_text.Common.{ReadsText, reading_of}
-use Rattle.move_text.proofs.from_tree_core.Common.{shape_of}
+use Rattle.tree_core.proofs.Common.{shape_of}
 use Rattle.move_text.specs.from_tree_text.Common.{tree_format}
 use Rattle.bench_tasks.proofs.TextReads.{ReadsText-reading_of}
 use Rattle.bench_tasks.proofs.formats.TreeFileFileFormat.read.Goals as goal

@@ -1,4 +1,4 @@
-use Rattle.tight_cuts.proofs.from_tree_core.Common.{IsLeafAt}
+use Rattle.tree_core.proofs.Common.{IsLeafAt}
 use Rattle.decomposer.proofs.visited_places.VisitedPlace.of.Goals as goal
 
 pub invariant_of-result : goal.invariant_of-result

@@ -1,5 +1,5 @@
 use Rattle.graph_core.proofs.from_counting.Common.{◌≡◌, ◌∙◌, ap, length, arith, rules, get_or_from_slice_get}
-use Rattle.tight_cuts.proofs.from_tree_core.Common.{PlaceValue, cut_count, kept_at, merged_at, place_of, shape_of}
+use Rattle.tree_core.proofs.Common.{PlaceValue, cut_count, kept_at, merged_at, place_of, shape_of}
 use Rattle.decomposer.proofs.KindsFound.{blocks-beside, cut-finds_kinds, leaf-finds}
 use Rattle.decomposer.proofs.visited_places.VisitedPlaces.+decompose_at.Goals as goal
 

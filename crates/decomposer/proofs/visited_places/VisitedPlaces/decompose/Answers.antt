@@ -1,5 +1,5 @@
 use Rattle.std.proofs.Common.{arith}
-use Rattle.tight_cuts.proofs.from_tree_core.Common.{few-nodes, leaf_count-cuts, length-leaves_at, node_count-cuts}
+use Rattle.tree_core.proofs.Common.{few-nodes, leaf_count-cuts, length-leaves_at, node_count-cuts}
 use Rattle.decomposer.proofs.visited_places.VisitedPlaces.decompose.Goals as goal
 
 pub tallied-tally-requires : goal.tallied-tally-requires

@@ -1,7 +1,7 @@
 use Rattle.two_ears.proofs.EdgeForm.{edge_form}
 use Rattle.two_ears.proofs.OppositeSides.{opposite}
 use Rattle.two_ears.proofs.TwoEars.{two_ears}
-use Rattle.theorems.proofs.ears.two_ear_law.Goals as goal
+use Rattle.theorems.proofs.ears.two_ear_lemmas_law.Goals as goal
 
 pub returns : goal.returns
 returns c = record {

@@ -1,0 +1,74 @@
+"""python3 -m mcg page FILE -o page.html: writes a page on a graph.
+
+FILE is a graph file, a file with one graph in graph6, - for standard input, or a text in graph6.
+The page is one HTML file with everything in it. Status 0: it is written; 1: it could not be made;
+2: the command line is wrong.
+"""
+from __future__ import annotations
+
+import argparse
+import os
+import sys
+from typing import List, Optional, Tuple
+
+from . import Error, Graph
+
+
+def main(words: Optional[List[str]] = None) -> int:
+    """Does what the command line says and returns the exit status."""
+    parser = argparse.ArgumentParser(prog="python3 -m mcg", description="Pages on graphs.")
+    commands = parser.add_subparsers(dest="command", required=True, metavar="COMMAND")
+    command = commands.add_parser("page", help="write a page on a graph, one HTML file")
+    command.add_argument("file", metavar="FILE", help="a graph file, - or a text in graph6")
+    command.add_argument("-o", "--output", metavar="PAGE", help="the page; else standard output")
+    command.add_argument("--title", help="what the page is called; else the name of the file")
+    given = parser.parse_args(words)
+    try:
+        write_page(given.file, given.output, given.title)
+    except (Error, ImportError, OSError, UnicodeDecodeError) as why:
+        print(f"python3 -m mcg page: {why}", file=sys.stderr)
+        return 1
+    return 0
+
+
+def write_page(name: str, output: Optional[str], title: Optional[str]) -> None:
+    """Writes the page on a graph."""
+    try:
+        from .draw.pages import page
+    except ImportError as why:
+        raise ImportError(
+            f"a page needs NumPy and NetworkX (Debian: python3-numpy, python3-networkx): {why}"
+        ) from why
+    text, called = read_graph(name)
+    made = page(Graph.from_text(text), title or called)
+    if output is None or output == "-":
+        sys.stdout.write(made)
+    else:
+        with open(output, "w", encoding="utf-8") as file:
+            file.write(made)
+
+
+def read_graph(name: str) -> Tuple[str, str]:
+    """Returns the text of a graph and what it is called: a file, standard input or a text in
+    graph6. Raises `OSError` if it is none of these."""
+    if name == "-":
+        return sys.stdin.read(), "A graph"
+    if os.path.exists(name):
+        with open(name, encoding="utf-8") as file:
+            return file.read(), os.path.basename(name)
+    if not is_graph6(name):
+        raise FileNotFoundError(f"{name} is neither a file nor a text in graph6")
+    return name, name
+
+
+def is_graph6(text: str) -> bool:
+    """Returns whether a text can be read as graph6."""
+    try:
+        Graph(text)
+    except Error:
+        return False
+    return True
+
+
+if __name__ == "__main__":
+    sys.exit(main())

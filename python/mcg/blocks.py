@@ -1,0 +1,144 @@
+"""Sends parts of a list of graphs through processes of mcg6 that run at the same time."""
+from __future__ import annotations
+
+import os
+import resource
+import subprocess
+import time
+from collections import deque
+from typing import IO, Any, Deque, Generator, Iterable, List, Optional, Sequence, cast
+
+from .errors import BadInput
+from .memory_files import file_of, new_file
+from .programs import started, status_of
+from .sessions import Session, without_header
+from .streams import CHUNK, KEPT, Stream, stop
+
+# A block takes at most so many lines and bytes, and as many lines as come in so many seconds.
+MOST_LINES, MOST_BYTES, PATIENCE = 8_192, KEPT, 0.05
+
+# The first blocks have so many lines. While a process takes less than so many seconds of processor
+# time, the next blocks are twice as long; after one that takes more than so many, half as long.
+FIRST_LINES, SHORT, LONG = 16, 0.05, 0.25
+
+
+class Block(Stream):
+    """A part of a list, sent through `mcg6 WORDS..` in whole.
+
+    `start` takes lines from the iterator and starts the process, which reads them from a file in
+    memory and writes to another, so that nobody has to feed it. Iterating waits for its end and
+    yields its lines; what is raised then is as in `Stream`. `close` ends the process.
+    """
+
+    _process: Optional[subprocess.Popen[bytes]] = None
+    _files: Sequence[IO[bytes]] = ()
+    _size = 0
+
+    def start(self, most: int) -> None:
+        """Takes at most so many lines, at least one if there is one, and starts the process."""
+        taken: List[bytes] = []
+        until = time.monotonic() + PATIENCE
+        while (
+            self.sent < most and self._size < MOST_BYTES and (not taken or time.monotonic() < until)
+        ):
+            line = self._take()
+            if line is None:
+                break
+            taken += [line, b"\n"]
+            self._size += len(line) + 1
+        source, drain, said = self._files = file_of(b"".join(taken)), new_file(), new_file()
+        self._process = started("mcg6", self.words, stdin=source, stdout=drain, stderr=said)
+
+    def is_running(self) -> bool:
+        """Returns whether the process still runs. Its exit status is left for `wait`."""
+        if self._process is None or self._process.returncode is not None:
+            return False
+        try:
+            return (
+                os.waitid(os.P_PID, self._process.pid, os.WEXITED | os.WNOWAIT | os.WNOHANG) is None
+            )
+        except ChildProcessError:
+            return False
+
+    def wait(self) -> float:
+        """Waits until the process has ended, and returns the seconds of processor time that it took.
+        If other threads wait for processes of theirs, those can be counted too."""
+        assert self._process
+        before = _children()
+        status_of("mcg6", self._process)
+        return _children() - before
+
+    def __iter__(self) -> Generator[bytes, None, None]:
+        assert self._process
+        status = status_of("mcg6", self._process)
+        source, drain, said = self._files
+        self._is_open = False
+        self._ended_early = os.lseek(source.fileno(), 0, os.SEEK_CUR) < self._size
+        drain.seek(0)
+        while piece := drain.read(CHUNK):
+            for line in self._whole_lines(piece):
+                self.yielded += 1
+                yield line
+        self._end(status, said)
+
+    def close(self) -> None:
+        """Ends the process if it still runs, and closes its files."""
+        if self._process is not None:
+            stop(self._process)
+        for file in self._files:
+            file.close()
+
+
+class BlockSession(Session):
+    """A session whose process runs while others do."""
+
+    sends_by = Block
+
+    @property
+    def block(self) -> Block:
+        """The part of the list that it sends."""
+        return cast(Block, self.stream)
+
+
+def at_once(
+    words: Sequence[str], graphs: Iterable[Any], skipped: Optional[List[BadInput]], processes: int
+) -> Generator[Session, None, None]:
+    """Yields the sessions of a list, in order, of which so many run at a time. Each is to be used up
+    before the next is taken.
+
+    New ones are begun as long as the first one still runs. At most two for each process are begun
+    and not yet yielded, so the memory used does not grow with the list. One in which the iterable
+    raised an exception is the last.
+    """
+    rest, before = without_header(graphs), 0
+    begun: Deque[BlockSession] = deque()
+    is_last, most = False, FIRST_LINES
+    try:
+        while begun or not is_last:
+            running = sum(it.block.is_running() for it in begun)
+            has_room = not is_last and running < processes and len(begun) < 2 * processes
+            if has_room:
+                begun.append(BlockSession(words, rest, skipped, before))
+                begun[-1].block.start(most)
+                before += begun[-1].count
+                is_last = begun[-1].block.is_last
+            if not has_room or not begun[0].block.is_running():
+                most = _length(most, begun[0].count, begun[0].block.wait())
+                yield begun[0]
+                begun.popleft().block.close()
+    finally:
+        for it in begun:
+            it.block.close()
+
+
+def _children() -> float:
+    """The seconds of processor time of all processes that were waited for."""
+    used = resource.getrusage(resource.RUSAGE_CHILDREN)
+    return used.ru_utime + used.ru_stime
+
+
+def _length(most: int, sent: int, seconds: float) -> int:
+    """How many lines the next block may have, after one with so many lines took so many seconds."""
+    if seconds > LONG:
+        return max(1, min(most, sent // 2))
+    return min(2 * most, MOST_LINES) if seconds < SHORT and sent >= most else most

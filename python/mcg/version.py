@@ -1,0 +1,2 @@
+"""The version of the package."""
+__version__ = "0.3.0"
