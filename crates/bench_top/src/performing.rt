@@ -37,7 +37,10 @@ fn report_on_stop(alloc: Global, stop: &Stop<'_>) -> Result<Report, Status>
         Stop::ReadFault { .. } => Err(Status::ReadFault),
         Stop::Memory => Err(Status::Memory),
         Stop::Bad {
-            file, line, kind, ..
+            file,
+            line,
+            kind,
+            ..
         } => match bad_input(alloc, *file, *line, kind.number()) {
             Ok(bytes) => Ok(Report {
                 status: Status::BadInput,

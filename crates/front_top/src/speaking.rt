@@ -66,9 +66,14 @@ fn say_stop<E: Sink>(errors: &mut E, stop: &Option<Stop<'_>>) -> Said
     ensures { Says E.written E.writes E.faults (stop_words stop.now) result errors.old errors.new }
 {
     match stop {
-        Some(Stop::Bad {
-            line, kind, found, ..
-        }) => say_bad(errors, *line, *kind, found),
+        Some(
+            Stop::Bad {
+                line,
+                kind,
+                found,
+                ..
+            },
+        ) => say_bad(errors, *line, *kind, found),
         Some(Stop::ReadFault { unread, .. }) => {
             say_unread(errors, PROGRAM, unread.file.name, unread.reason)
         }
