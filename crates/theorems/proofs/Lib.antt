@@ -17,19 +17,20 @@ pub mod ContractedMatchings
 pub mod CubicGraphs
 pub mod DisjointEars
 pub mod DoneRuns
-pub mod InstalledRuns
 pub mod EarCounts
 pub mod EarPaths
 pub mod EarRefusals
 pub mod EarSteps
 pub mod ElementaryBarriers
 pub mod ElementaryComponents
+pub mod ElpCuts
 pub mod ExtendableCuts
 pub mod ExtendableGraphs
 pub mod FilesOfReads
 pub mod FirstSeparated
 pub mod HetyeiEars
 pub mod HetyeiSides
+pub mod InstalledRuns
 pub mod JoinedMatchings
 pub mod LaminarFamilies
 pub mod LeafKindLists
@@ -40,6 +41,7 @@ pub mod Marriages
 pub mod MatchedParts
 pub mod MatchedWithin
 pub mod MaximalBarriers
+pub mod MergedSets
 pub mod MovedShores
 pub mod NamedCuts
 pub mod NamesRead
@@ -50,6 +52,9 @@ pub mod OutcomesExist
 pub mod PartitionSides
 pub mod PickedDerivations
 pub mod PlainDecompositions
+pub mod PocketContractions
+pub mod PocketShelters
+pub mod Pockets
 pub mod QuotientCounts
 pub mod Quotients
 pub mod RegularCuts
@@ -64,6 +69,7 @@ pub mod Separated
 pub mod SeparatingCuts
 pub mod SetsRead
 pub mod SidesAcrossCuts
+pub mod SmallerPockets
 pub mod StrongBipartite
 pub mod StrongDigraphs
 pub mod SurplusOfA

@@ -1,50 +1,28 @@
 -- A cut is separating if and only if each edge is in a perfect matching with exactly one edge in
 -- it. An edge of a shore is in a perfect matching of the contraction that keeps it, whose cut edge
 -- is in one of the other contraction; both together are one of the graph.
-use Rattle.tree_check.proofs.from_counting.Common.{◌≡◌, ◌≢◌, ℕ, suc, ◌+◌, Bool, true, false, ◌&&◌, ◌||◌, not, refl, sym, ap, ◌∙◌, arith, List, subst, ◌↔◌, inl, inr, and_from, and_parts, cases_Bool, cases_lt, count_member, count_zero, member_count, not-true, odd-double, odd_pos, mem-within, or_left, or_right, true≢false, Within, IsRisingIn, count, is_odd, mem, Set, complement, meet, minus, none}
+use Rattle.tree_check.proofs.from_counting.Common.{◌≡◌, ◌≢◌, ℕ, suc, ◌+◌, Bool, true, false, ◌&&◌, ◌||◌, not, refl, sym, ap, ◌∙◌, arith, List, ◌↔◌, inl, inr, and_from, and_parts, cases_Bool, cases_lt, count_member, count_zero, member_count, not-true, odd-double, odd_pos, or_left, or_right, true≢false, Within, IsRisingIn, count, is_odd, mem, Set, complement, meet, minus, none}
 use Rattle.barrier_kit.proofs.Common.{crosses_apart}
-use Rattle.graph_core.proofs.Common.{complement_of-rises, contracted-singles, mem-complement_of, merged_merges, merges, carried, parity, parted, singles-partition, tight_from_cut, union-singles, blocks-singles, Graph, IsCovered, IsConnected, IsGraph, IsPerfect, IsSide, IsTight, Merges, blocks_in, complement_of, contracted, degree, edges_in_cut, first_end, in_cut, inside, merged, second_end, singles, size}
+use Rattle.graph_core.proofs.Common.{complement_of-rises, mem-complement_of, parity, parted, tight_from_cut, Graph, IsCovered, IsConnected, IsGraph, IsPerfect, IsSide, IsTight, Merges, complement_of, contracted, degree, edges_in_cut, first_end, in_cut, inside, merged, second_end, singles, size}
 use Rattle.quick_kinds.proofs.from_matching_digraph.Balance.{balance, leaves_left, leaves_right}
 use Rattle.theorems.proofs.BrickFacts.{turned_cut}
 use Rattle.theorems.proofs.ContractedMatchings.{OneSide, allowed_by, covered_by_met}
 use Rattle.theorems.proofs.JoinedMatchings.{both, both_cut, both_perfect}
+use Rattle.theorems.proofs.MergedSets.{merged_list, other_set}
 use Rattle.theorems.specs.Separating.{IsMetOnce, IsSeparating}
 
--- the shore may be given by another set with the same vertices
-other_set : (g : Graph) (x y : Set) (h : Graph) (f : ℕ → ℕ) (c : ℕ) → ((v : ℕ) → Within g.order v → x v ≡ y v) → Merges g x h f c → Merges g y h f c
-other_set g x y h f c same m = record {
-  edges = m.edges;
-  first_ends = m.first_ends;
-  second_ends = m.second_ends;
-  inside = λ v w t. m.inside v w (same v w ∙ t);
-  outside = λ v w t. m.outside v w (same v w ∙ t);
-  apart = λ u v wu wv i j. m.apart u v wu wv (same u wu ∙ i) (same v wv ∙ j);
-  onto = λ w ww d. let r = m.onto w ww d in (r.0, r.1, sym (same r.0 r.1) ∙ r.2, r.3);
-  new = m.new;
-}
-
 module _ (g : Graph) (is : IsGraph g) where
-  -- the vertices of a nonempty list made one
-  merged_list : (x : List ℕ) → IsRisingIn g.order x → (u : ℕ) → Within g.order u → mem x u ≡ true → (f : ℕ → ℕ) × (c : ℕ) × Merges g (mem x) (contracted g (merged (singles g.order) x)) f c
-  merged_list x rises u wu xu =
-      let p = (singles-partition g.order).partition in
-      let union = union-singles g.order (mem x) in
-      let is_merge = merged_merges g.order (singles g.order) x p union (u, wu, xu) (λ v. mem-within g.order x rises v) in
-      let m = merges g is (singles g.order) (merged (singles g.order) x) (mem x) p union is_merge in
-      let k = subst (λ (k : Graph). Merges k (blocks_in (singles g.order) (mem x)) (contracted g (merged (singles g.order) x)) (carried (singles g.order) (merged (singles g.order) x)) is_merge.new.0) (contracted-singles g is) m in
-      (carried (singles g.order) (merged (singles g.order) x), is_merge.new.0, other_set g (blocks_in (singles g.order) (mem x)) (mem x) _ _ _ (λ v w. blocks-singles g.order (mem x) v w) k)
-
   module _ (x : List ℕ) (rises : IsRisingIn g.order x) (u v : ℕ) (wu : Within g.order u) (wv : Within g.order v) (xu : mem x u ≡ true) (xv : mem x v ≡ false) where
     abbrev y : Set
     y = mem x
 
     one : (f : ℕ → ℕ) × (c : ℕ) × Merges g (mem x) (contracted g (merged (singles g.order) x)) f c
-    one = merged_list x rises u wu xu
+    one = merged_list g is x rises u wu xu
 
     rest : (f : ℕ → ℕ) × (c : ℕ) × Merges g (complement (mem x)) (contracted g (merged (singles g.order) (complement_of g.order x))) f c
     rest =
         let same : (w : ℕ) → Within g.order w → mem (complement_of g.order x) w ≡ not (mem x w) = λ w ww. mem-complement_of g.order x w ww in
-        let m = merged_list (complement_of g.order x) (complement_of-rises g.order x) v wv (same v wv ∙ ap not xv) in
+        let m = merged_list g is (complement_of g.order x) (complement_of-rises g.order x) v wv (same v wv ∙ ap not xv) in
         (m.0, m.1, other_set g (mem (complement_of g.order x)) (complement (mem x)) _ m.0 m.1 same m.2)
 
     from_met : IsConnected g → IsMetOnce g y → IsSeparating g x

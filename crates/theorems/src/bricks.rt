@@ -2,11 +2,12 @@
 //!
 //! Source: Edmonds, Lovász and Pulleyblank, "Brick decompositions and the matching rank of
 //! graphs" (Combinatorica 2, 1982).
-ghost use Rattle.std.specs.Prelude.{ℕ, ◌≤◌, ◌⊎◌, ◌↔◌};
-ghost use Rattle.tree_check.specs.from_counting.Common.{Set};
+ghost use Rattle.std.specs.Prelude.{◌≡◌, ℕ, ◌≤◌, ◌⊎◌, ◌↔◌, not};
+ghost use Rattle.tree_check.specs.from_counting.Common.{Set, Within, complement};
 ghost use Rattle.graph_core.specs.Common.{IsCovered, Graph, IsBipartite, IsGraph, IsMultigraph, IsBarrier, IsBicritical, IsCutPair, HasOnlyTrivialTightCuts, IsNontrivial, IsTight, IsSide};
 ghost use Rattle.barrier_kit.specs.Common.{BarrierCut};
-ghost use Rattle.theorems.specs.Bricks.{IsBarrierCutOf, IsThreeConnected, SeparationCut};
+ghost use Rattle.theorems.specs.Bricks.{HoldsReason, IsBarrierCutOf, IsElpCut, IsThreeConnected, SeparationCut};
+ghost use Rattle.theorems.specs.TightCuts.{Cross};
 
 /// The theorem of Edmonds, Lovász and Pulleyblank: a matching covered graph with a nontrivial
 /// tight cut has a barrier cut or a 2-separation cut, which need not be the given one. In a
@@ -30,4 +31,14 @@ pub fn elp_law()
     ensures three_connected { (g : Graph) → IsMultigraph g →
         (IsCovered g × (¬ (IsBipartite g)) × HasOnlyTrivialTightCuts g) ↔
         (IsThreeConnected g × IsBicritical g) }
+    ensures beside { (g : Graph) (x : Set) → IsGraph g → IsCovered g → IsBicritical g →
+        IsTight g x → IsNontrivial g.order x →
+        (y : Set) × IsElpCut g y × (¬ (Cross g.order x y)) }
+    ensures inside { (g : Graph) (x : Set) → IsGraph g → IsCovered g → IsBicritical g →
+        IsTight g x → IsNontrivial g.order x → HoldsReason g x ⊎ HoldsReason g (complement x) }
+    ensures alone { (g : Graph) (x : Set) → IsGraph g → IsCovered g → IsBicritical g →
+        IsTight g x → IsNontrivial g.order x →
+        ((y : Set) → IsTight g y → IsNontrivial g.order y → ¬ (Cross g.order x y) →
+        ((v : ℕ) → Within g.order v → x v ≡ y v) ⊎
+        ((v : ℕ) → Within g.order v → x v ≡ not (y v))) → IsElpCut g x }
 {}
