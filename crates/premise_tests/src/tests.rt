@@ -5,6 +5,7 @@ mod cuts;
 mod deciding;
 mod decompositions;
 mod ears;
+mod elp_cuts;
 mod graphs;
 mod matchings;
 mod of_barriers;

@@ -1,7 +1,8 @@
 //! Bricks: where a nontrivial tight cut comes from, and which graphs are bricks.
 //!
-//! Source: Edmonds, Lovász and Pulleyblank, "Brick decompositions and the matching rank of
-//! graphs" (Combinatorica 2, 1982).
+//! Sources: Edmonds, Lovász and Pulleyblank, "Brick decompositions and the matching rank of
+//! graphs" (Combinatorica 2, 1982); Carvalho, Lucchesi and Murty, "On tight cuts in matching
+//! covered graphs" (Journal of Combinatorics, 2018).
 ghost use Rattle.std.specs.Prelude.{◌≡◌, ℕ, ◌≤◌, ◌⊎◌, ◌↔◌, not};
 ghost use Rattle.tree_check.specs.from_counting.Common.{Set, Within, complement};
 ghost use Rattle.graph_core.specs.Common.{IsCovered, Graph, IsBipartite, IsGraph, IsMultigraph, IsBarrier, IsBicritical, IsCutPair, HasOnlyTrivialTightCuts, IsNontrivial, IsTight, IsSide};
@@ -15,7 +16,10 @@ ghost use Rattle.theorems.specs.TightCuts.{Cross};
 /// barrier B. A graph is a brick if and only if it has at least four vertices, is bicritical and
 /// has no cut pair; a graph with at least four vertices has no cut pair if and only if it is
 /// 3-connected; so a graph is a brick if and only if it is 3-connected and bicritical (Edmonds,
-/// Lovász and Pulleyblank 1982; Lovász 1987).
+/// Lovász and Pulleyblank 1982; Lovász 1987). In a bicritical graph each nontrivial tight cut has
+/// an ELP cut that does not cross it, with a reason inside one of its shores; if it is the only
+/// nontrivial tight cut that does not cross it, it is an ELP cut itself (Carvalho, Lucchesi and
+/// Murty 2018).
 pub fn elp_law()
     ensures cut { (g : Graph) (x : Set) → IsMultigraph g → IsCovered g →
         IsTight g x → IsNontrivial g.order x →

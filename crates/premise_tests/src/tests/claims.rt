@@ -136,6 +136,15 @@ pub enum OfSet {
     Canonical,
     /// It or its complement is a component that some barrier leaves.
     LeftByBarrier,
+    /// Its cut is nontrivial and tight, and a barrier cut or a 2-separation cut.
+    ElpCut,
+    /// Such a cut does not cross its cut.
+    ElpCutBeside,
+    /// It or its complement contains a barrier with two vertices, or a component that a cut pair
+    /// leaves, with a vertex of the pair, as the shore of a nontrivial tight cut.
+    ReasonInside,
+    /// Each nontrivial tight cut that does not cross its cut is equal to it.
+    Alone,
     Separating,
     /// Each edge is in a perfect matching that has exactly one edge in its cut.
     MetOnce,

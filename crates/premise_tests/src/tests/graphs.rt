@@ -84,6 +84,9 @@ pub const LADDER: Given = (6, &[12, 23, 45, 56, 14, 25, 36]);
 /// Two copies of K4 sharing the edge 12.
 pub const TWO_K4: Given = (6, &[12, 13, 14, 23, 24, 34, 15, 16, 25, 26, 56]);
 
+/// A bicritical graph with the tight shore 1 5 7, whose cut is no 2-separation cut.
+pub const SHORE_NO_PART: Given = (8, &[13, 14, 15, 17, 23, 24, 25, 26, 28, 34, 57, 67, 68, 78]);
+
 pub const DISJOINT_K4: Given = (8, &[12, 13, 14, 23, 24, 34, 56, 57, 58, 67, 68, 78]);
 
 /// A cubic graph with the bridge 14, its edge 9.

@@ -2,12 +2,14 @@
 
 use super::claims::Claim::{Is, Number, Set, Sets};
 use super::claims::OfNumber::Order;
-use super::claims::OfSet::{LeftByBarrier, Nontrivial, Perfect, Side, Tight};
+use super::claims::OfSet::{
+    Alone, ElpCut, ElpCutBeside, LeftByBarrier, Nontrivial, Perfect, ReasonInside, Side, Tight,
+};
 use super::claims::Property::{
     BarrierCut, Bicritical, Bipartite, Composite, Connected, Covered, Loopless, Nonbipartite,
     SeparationCut, ThreeConnected, TwoExtendable, Unseparated,
 };
-use super::graphs::{K2, K2_WITH_LOOP, K33, STAR_OF_5, THREE_ISOLATED, TWO_K4};
+use super::graphs::{K2, K2_WITH_LOOP, K4, K33, SHORE_NO_PART, STAR_OF_5, THREE_ISOLATED, TWO_K4};
 use super::rows::{Row, all_are_so};
 use std::test::Fail;
 
@@ -39,6 +41,36 @@ static CUTS: [Row; 2] = [
             Is(&[Bipartite, BarrierCut]),
             Sets(&[LeftByBarrier], &[&[1, 3, 4], &[2, 3, 4]]),
         ],
+    },
+];
+
+static CUTS_BESIDE: [Row; 3] = [
+    Row {
+        premises: &["elp_law: `beside`, `inside`, `alone`: tight"],
+        graph: "two copies of K4 sharing an edge",
+        given: TWO_K4,
+        holds: &[
+            Is(&[Covered, Bicritical]),
+            Set(&[Nontrivial, Alone], &[1, 3, 5]),
+        ],
+        fails: &[Set(&[Tight, ElpCutBeside, ReasonInside, ElpCut], &[1, 3, 5])],
+    },
+    Row {
+        premises: &["elp_law: `beside`, `inside`, `alone`: nontrivial"],
+        graph: "K4",
+        given: K4,
+        holds: &[Is(&[Covered, Bicritical]), Set(&[Tight, Alone], &[1])],
+        fails: &[Set(&[Nontrivial, ElpCutBeside, ReasonInside, ElpCut], &[1])],
+    },
+    Row {
+        premises: &["elp_law: `alone`: no other cut beside it"],
+        graph: "the bicritical graph with the edges 13, 14, 15, 17, 23, 24, 25, 26, 28, 34, 57, 67, 68 and 78",
+        given: SHORE_NO_PART,
+        holds: &[
+            Is(&[Covered, Bicritical]),
+            Set(&[Tight, Nontrivial, ElpCutBeside], &[1, 5, 7]),
+        ],
+        fails: &[Set(&[Alone, ElpCut], &[1, 5, 7])],
     },
 ];
 
@@ -97,6 +129,11 @@ static BRICKS: [Row; 6] = [
 #[test]
 fn premises_on_barrier_cuts_and_separations(rt: HostRuntime) -> Result<(), Fail> {
     all_are_so(rt.alloc(), &CUTS)
+}
+
+#[test]
+fn premises_on_cuts_that_do_not_cross(rt: HostRuntime) -> Result<(), Fail> {
+    all_are_so(rt.alloc(), &CUTS_BESIDE)
 }
 
 #[test]
