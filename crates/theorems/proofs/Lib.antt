@@ -28,6 +28,7 @@ pub mod ExtendableCuts
 pub mod ExtendableGraphs
 pub mod FilesOfReads
 pub mod FirstSeparated
+pub mod HalfBarriers
 pub mod HetyeiEars
 pub mod HetyeiSides
 pub mod InstalledRuns
