@@ -8,6 +8,7 @@ mod cuts;
 mod definitions;
 mod ears;
 mod enumerated;
+mod examples;
 mod graphs;
 mod growing;
 mod grown;

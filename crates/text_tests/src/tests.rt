@@ -1,6 +1,7 @@
 //! The tests.
 
 mod ear_rows;
+mod examples;
 mod formats;
 mod graph6_rows;
 mod graph_rows;
