@@ -1,6 +1,7 @@
 -- Each message is whole lines. Idea: a text that ends in a line feed still does behind another, and
 -- each message is made of such texts; so nothing of it is held by a stream of lines.
 use Rattle.std.proofs.Common.{◌≡◌, ◌∙◌, ℕ, List, [], ◌∷◌, ◌++◌, Bool, true, false, codes, if◌then◌else◌, Option, Some, None, refl, sym, ap, inl, inr, append_assoc, decimal, replicate, length, ◌-◌, ◌==◌}
+use Rattle.line_text.specs.FaultKinds.{kind_number}
 use Rattle.line_text.specs.declared.faults.FaultKind.{FaultKind}
 use Rattle.mcg6_top.specs.from_mcg6_reader.Lines.{IsClosedText}
 use Rattle.mcg6_top.proofs.from_mcg6_reader.LineCuts.{IsClosedText-append}
@@ -64,7 +65,8 @@ unread-list-ends name (Some file) reason = unread-ends name file reason (list_da
 
 bad-line-ends : (name : List ℕ) (number : ℕ) (kind : FaultKind) (text : List ℕ) → Ends (bad_line_text name number kind text)
 bad-line-ends name number kind text =
-    behind name _ (behind (codes ": line ") _ (behind (decimal number) _ (behind (list_joint text) _ (behind (bad_line_words kind text) _ (behind (opening_note text) _ (shown-line name number (line_kept text)))))))
+    behind name _ (behind (codes ": line ") _ (behind (decimal number) _ (behind (codes " kind ") _ (behind (decimal (kind_number kind)) _
+    (behind (list_joint text) _ (behind (bad_line_words kind text) _ (behind (opening_note text) _ (shown-line name number (line_kept text)))))))))
 
 outside-ends : (empty : Option ℕ) (name file text : List ℕ) → Ends text → Ends (unless_empty empty name file text)
 outside-ends None name file text ends = ends
