@@ -23,16 +23,22 @@ class Documents(unittest.TestCase):
         with open(f"{ROOT}/docs/PYTHON.md", encoding="utf-8") as file:
             blocks = re.findall(r"^```python\n(.*?)^```$", file.read(), re.M | re.S)
         self.assertGreaterEqual(len(blocks), 6)
-        names, before = {}, os.getcwd()
+        names, before, done, missing = {}, os.getcwd(), [], []
         with tempfile.TemporaryDirectory() as folder, contextlib.redirect_stdout(io.StringIO()) as said:
             os.chdir(folder)
             try:
                 for block in blocks:
-                    exec(compile(block, "PYTHON", "exec"), names)
+                    try:
+                        exec(compile(block, "PYTHON", "exec"), names)
+                        done.append(block)
+                    except ImportError as why:  # an optional package
+                        missing.append(str(why))
             finally:
                 os.chdir(before)
-        for wanted in re.findall(r"^print\(.*?\)  +# ([\[<TF].*)$", "".join(blocks), re.M):
+        for wanted in re.findall(r"^print\(.*?\)  +# ([\[<TF].*)$", "".join(done), re.M):
             self.assertIn(wanted, said.getvalue())
+        if missing:
+            self.skipTest(f"{len(missing)} of {len(blocks)} blocks, the others passed: {missing[0]}")
 
     def test_the_examples_in_docstrings(self):
         """Of all modules; what cannot be imported, for want of an optional package, is counted."""
