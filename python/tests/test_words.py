@@ -78,14 +78,14 @@ class Words(unittest.TestCase):
 
     def test_ears(self):
         draw, seen = random.Random(52), {}
-        for graph in covered(52, 30):
+        for graph in covered(52, 120):
             for listed in wrong_ears(graph, draw):
                 found = mcg.check_ears(graph, listed)
                 if not found:
                     with self.subTest(graph=graph, text=listed.to_text(graph)):
                         key = self.compare("checkears", graph, found, ears=listed.to_text(graph))
                         seen[key] = seen.get(key, 0) + 1
-        self.assertGreaterEqual(len({key[-1] for key in seen}), 6)
+        self.assertGreaterEqual(len({key[-1] for key in seen}), 6, sorted({key for key in seen}))
         print(f"words of ears compared: {sum(seen.values())}")
 
     def test_moves(self):
