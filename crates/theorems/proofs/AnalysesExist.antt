@@ -45,7 +45,7 @@ structure_of g is cov =
     let u = told_pair (equivalent_pair g) in
     let c = told_pair (cut_pair g) in
     let k = kind_of g (candidates g) (candidates_found g is.ends cov) (candidates_none g is.ends cov).0 (bipartite-or g is.ends) in
-    (record { classes = classes g; equivalent = u.0; cutpair = c.0; kind = k.0 }, record { partition = refl; equivalent = u.1; separates = c.1; kind = k.1; cut = k.2 })
+    (record { classes = classes g; unlike = u.0; cutpair = c.0; kind = k.0 }, record { partition = refl; equivalent = u.1; separates = c.1; kind = k.1; cut = k.2 })
 
 -- the verdict, and the structure if the graph is covered
 verdict_of : (g : Graph) → IsMultigraph g → (v : Verdict) × (s : Option Structure) × IsVerdict g v × TellsStructure g v s

@@ -35,7 +35,6 @@ pub mod FilesOfReads
 pub mod FirstSeparated
 pub mod HetyeiEars
 pub mod HetyeiSides
-pub mod InstalledRuns
 pub mod JoinedMatchings
 pub mod LaminarFamilies
 pub mod LeafKindLists
