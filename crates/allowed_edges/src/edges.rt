@@ -10,8 +10,8 @@ use match_core::{PartnerTable, maximum};
 use std::alloc::{AllocError as Memory, Global};
 
 /// The edges that lie in perfect matchings, in increasing order. A graph without a perfect matching
-/// has none. Takes one maximum matching, at most n searches and O(m) further steps; the only error
-/// is `Memory`.
+/// has none. Takes one maximum matching, at most n searches and O(m) further steps, O(n^4 + m)
+/// steps on words at most; the only error is `Memory`.
 pub fn allowed(alloc: Global, g: &MultiGraph) -> Result<Numbers, Memory>
     ensures { IfOk result (λ edges. Lists (size g.now) edges (Allowed g.now)) }
 {

@@ -13,7 +13,7 @@ use match_core::{Matching, repair};
 use std::alloc::{AllocError as Memory, Global};
 
 /// A perfect matching that contains `e`, from a perfect matching; `None` if and only if there is
-/// none.
+/// none. Takes at most one augmentation, O(n^3 + m) steps on words; the only error is `Memory`.
 pub fn perfect_with_edge(
     alloc: Global,
     g: &MultiGraph,
@@ -38,7 +38,8 @@ pub fn perfect_with_edge(
 }
 
 /// A perfect matching that contains `e` and `f`, which share no end, from a perfect matching that
-/// contains `e`; `None` if and only if there is none.
+/// contains `e`; `None` if and only if there is none. Takes at most one augmentation, O(n^3 + m)
+/// steps on words; the only error is `Memory`.
 pub fn perfect_with_pair(
     alloc: Global,
     g: &MultiGraph,

@@ -13,7 +13,7 @@ use std::alloc::{AllocError as Memory, Global};
 
 /// Whether `g` is matching covered, and if not, the first reason, in the order `Small`, `Parted`,
 /// `Unmatched`, `Unallowed`. Takes one maximum matching, at most n searches and O(n + m) further
-/// steps; the only error is `Memory`.
+/// steps, O(n^4 + m) steps on words at most; the only error is `Memory`.
 pub fn covered(alloc: Global, g: &MultiGraph) -> Result<Verdict, Memory>
     ensures { IfOk result (IsVerdict g.now) }
 {

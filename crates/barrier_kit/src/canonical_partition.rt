@@ -10,8 +10,8 @@ use std::alloc::{AllocError as Memory, Global};
 
 /// The canonical partition of a covered graph: its classes by least vertex. Two vertices u and v
 /// are in one class if they are equal or G - u - v has no perfect matching (Kotzig 1959; Lovász and
-/// Plummer, "Matching Theory", chapter 5). Takes one maximum matching and at most n searches; the
-/// only error is `Memory`.
+/// Plummer, "Matching Theory", chapter 5). Takes one maximum matching and at most n searches, O(n^4
+/// + m) steps on words at most; the only error is `Memory`.
 pub fn classes(alloc: Global, g: &MultiGraph) -> Result<SetList, Memory>
     requires { IsCovered g.now }
     ensures { IfOk result (λ list. list ≡ classes g.now) }

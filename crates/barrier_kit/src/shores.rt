@@ -21,7 +21,8 @@ fn add_class_cuts(alloc: Global, c: &Covered, class: VSet, cuts: &mut SetList) -
 
 /// The nontrivial cuts that the classes of a covered graph give: ∂(V(K)) for each class B and each
 /// component K of G - B. Each cut is listed once, by its canonical shore, and is tight (Edmonds,
-/// Lovász and Pulleyblank 1982). The only error is `Memory`.
+/// Lovász and Pulleyblank 1982). Costs what `Covered::of` costs, and O(n^2) further steps; the only
+/// error is `Memory`.
 pub fn barrier_cuts(alloc: Global, g: &MultiGraph) -> Result<SetList, Memory>
     requires { IsCovered g.now }
     ensures { IfOk result (λ cuts. cuts ≡ barrier_cuts g.now) }
@@ -29,8 +30,8 @@ pub fn barrier_cuts(alloc: Global, g: &MultiGraph) -> Result<SetList, Memory>
     barrier_cuts_of(alloc, &Covered::known(alloc, g)?)
 }
 
-/// The cuts that `barrier_cuts` lists, of a `Covered`. Takes one search for components per class;
-/// the only error is `Memory`.
+/// The cuts that `barrier_cuts` lists, of a `Covered`. Takes one search for components per class,
+/// O(n^2) steps on words; the only error is `Memory`.
 pub fn barrier_cuts_of(alloc: Global, c: &Covered) -> Result<SetList, Memory>
     ensures { IfOk result (λ cuts. cuts ≡ barrier_cuts c.now) }
 {
@@ -42,14 +43,16 @@ pub fn barrier_cuts_of(alloc: Global, c: &Covered) -> Result<SetList, Memory>
     Ok(cuts)
 }
 
-/// The first of the cuts that `barrier_cuts` lists. The search stops there.
+/// The first of the cuts that `barrier_cuts` lists. The search stops there. Takes O(n^2) steps on
+/// words at most; the only error is `Memory`.
 pub fn first_barrier_cut(alloc: Global, c: &Covered) -> Result<Option<VSet>, Memory>
     ensures { IfOk result (λ cut. cut ≡ slice_get (barrier_cuts c.now) 0) }
 {
     first_barrier_cut_from(alloc, c, &classes_of(alloc, c)?)
 }
 
-/// What `first_barrier_cut` returns, from the classes of the graph.
+/// What `first_barrier_cut` returns, from the classes of the graph. Takes O(n^2) steps on words at
+/// most; the only error is `Memory`.
 pub fn first_barrier_cut_from(
     alloc: Global,
     c: &Covered,

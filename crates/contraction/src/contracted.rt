@@ -76,7 +76,8 @@ impl Contracted {
         edges_at(&self.remembered, e as usize - 1)
     }
 
-    /// The union of the blocks at the places in `s`. Takes no memory.
+    /// The union of the blocks at the places in `s`. Takes no memory, and O(k) steps on words for k
+    /// blocks.
     pub fn lift_set(&self, s: VSet) -> VSet
         ensures { (g : Graph) (p : List (List ℕ)) → self.now ≡ contraction g p →
             result ≡ union_of_blocks g p (mem s) }
@@ -119,8 +120,8 @@ fn edges_at(kept: &IndexMap<(u32, u32), Vec<u32>>, i: usize) -> &[u32]
 }
 
 /// The quotient of `g` at `p`, a partition of its vertices: one edge for each pair of adjacent
-/// blocks, in lexicographic order of their places, with its remembered edges. The only error is
-/// `Memory`.
+/// blocks, in lexicographic order of their places, with its remembered edges. Takes O(n (n + m))
+/// time; the only error is `Memory`.
 pub fn quotient(alloc: Global, g: &MultiGraph, p: &Partition) -> Result<Contracted, Memory>
     requires { p.now.order ≡ g.now.order }
     ensures { IfOk result (λ q. q ≡ contraction g.now p.now.blocks) }

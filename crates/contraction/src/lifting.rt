@@ -15,7 +15,8 @@ use std::alloc::{AllocError as Memory, Global};
 
 /// The matching `m` of the quotient graph lifted to the graph: the least remembered edge of each
 /// row, in increasing order. If `m` is perfect, the lifted edges are a perfect matching at the
-/// partition: each block contains an end of exactly one of them.
+/// partition: each block contains an end of exactly one of them. Takes O(n + m) time for the n
+/// vertices and m edges of the graph; the only error is `Memory`.
 pub fn lift(alloc: Global, q: &Contracted, m: &Matching) -> Result<Numbers, Memory>
     requires { IsOf q.now.graph m.now }
     ensures edges { (g : Graph) (p : List (List ℕ)) → q.now ≡ contraction g p →

@@ -31,7 +31,7 @@ impl Model for Partition {
 }
 
 impl Partition {
-    /// The partition of 1 to `n` into single vertices.
+    /// The partition of 1 to `n` into single vertices. Takes O(n) time; the only error is `Memory`.
     pub fn singles(alloc: Global, n: u32) -> Result<Partition, Memory>
         requires { n ≤ MOST_VERTICES }
         ensures order { IfOk result (λ p. p.order ≡ n) }
@@ -87,7 +87,8 @@ impl Partition {
         self.blocks == other.blocks
     }
 
-    /// Whether `set` is a union of blocks; false if it has a vertex beyond n. Takes no memory.
+    /// Whether `set` is a union of blocks; false if it has a vertex beyond n. Takes no memory, and
+    /// O(k) steps on words for k blocks.
     pub fn is_union(&self, set: VSet) -> bool
         ensures { IsTrue result ↔ IsUnionAt self.now set }
     {
@@ -95,14 +96,16 @@ impl Partition {
         set.is_subset(VSet::full(self.order)) && each_in_or_apart(&self.blocks, set)
     }
 
-    /// How many blocks are in `set`, which is a union of blocks. Takes no memory.
+    /// How many blocks are in `set`, which is a union of blocks. Takes no memory, and O(k) steps on
+    /// words for k blocks.
     pub fn blocks_in(&self, set: VSet) -> u32
         ensures { result ≡ block_count self.now.blocks (mem set) }
     {
         count_inside(&self.blocks, set) as u32
     }
 
-    /// The union of the blocks at the places in `s`. Takes no memory.
+    /// The union of the blocks at the places in `s`. Takes no memory, and O(k) steps on words for k
+    /// blocks.
     pub fn lift_set(&self, s: VSet) -> VSet
         ensures { (g : Graph) → g.order ≡ self.now.order →
             result ≡ union_of_blocks g self.now.blocks (mem s) }
@@ -114,6 +117,7 @@ impl Partition {
     }
 
     /// The partition after all blocks in `shore`, a nonempty union of blocks, are merged into one.
+    /// Takes O(k) steps on words for k blocks; the only error is `Memory`.
     pub fn merge(&self, alloc: Global, shore: VSet) -> Result<Partition, Memory>
         requires union { IsUnionAt self.now shore }
         requires nonempty { 0 < length shore }
@@ -128,7 +132,7 @@ impl Partition {
         })
     }
 
-    /// A copy.
+    /// A copy. Takes O(k) time for k blocks; the only error is `Memory`.
     pub fn copy(&self, alloc: Global) -> Result<Partition, Memory>
         ensures order { IfOk result (λ p. p.order ≡ self.now.order) }
         ensures blocks { IfOk result (λ p. p.blocks ≡ self.now.blocks) }
@@ -147,7 +151,7 @@ impl Partition {
     }
 
     /// The place of the block that contains `v`, counted from 1, or one past the end if none does.
-    /// Takes no memory.
+    /// Takes no memory, and O(k) steps on words for k blocks.
     pub fn place(&self, v: u32) -> u32
         requires { Within MOST_VERTICES v }
         ensures { result ≡ place self.now.blocks v }

@@ -32,7 +32,7 @@ impl Model for PlacedEdges {
 }
 
 impl PlacedEdges {
-    /// The edges of `g` at the partition `p`. One pass over the edges.
+    /// The edges of `g` at the partition `p`. Takes O(n^2 + m) time; the only error is `Memory`.
     pub fn of(alloc: Global, g: &MultiGraph, p: &Partition) -> Result<PlacedEdges, Memory>
         requires { p.now.order ≡ g.now.order }
         ensures { IfOk result (λ e. e ≡ contracted g.now p.now.blocks) }
@@ -45,7 +45,8 @@ impl PlacedEdges {
     }
 
     /// The edges between the blocks at the two different places, in increasing order: one pass over
-    /// the edges that join the earlier of the two blocks to a later one.
+    /// the edges that join the earlier of the two blocks to a later one, so O(m) time at most; the
+    /// only error is `Memory`.
     pub fn between(&self, alloc: Global, a: u32, b: u32) -> Result<Vec<u32>, Memory>
         requires { a ≢ b }
         ensures { IfOk result

@@ -8,7 +8,7 @@ use tight_cuts::graph_facts::Covered;
 use tree_core::{Tally, kinds_at, tallied};
 
 /// How many leaves a decomposition of a covered graph has, and how many of them are bricks and
-/// braces.
+/// braces. Takes O(k) time for k leaves; the only error is `Memory`.
 pub fn tally(alloc: Global, c: &Covered, found: &Decomposition) -> Result<Tally, AllocError>
     requires derivation { IsDerivation c.now (shape_of found.now.tree) }
     requires leaves { found.now.leaves.items

@@ -22,8 +22,9 @@ pub struct Decomposition<'g> {
     pub leaves: Vec<KnownPlace<'g>>,
 }
 
-/// The tree of tight cuts that `order` picks from a covered graph, as `decompose` answers it, with
-/// its leaves. What is known of the graph is not sought again.
+/// The tree of tight cuts that `order` picks from a covered graph, as `decompose` returns it, with
+/// its leaves. What is known of the graph is not sought again. Costs what `decompose` costs, less
+/// the first `Covered::of`; the only error is `AllocError`, out of memory.
 pub fn decompose_places<'g, O: Order>(
     alloc: Global,
     c: &'g Covered<'g>,
@@ -45,7 +46,8 @@ pub fn decompose_places<'g, O: Order>(
 }
 
 /// The decomposition in the order `First` of a covered graph of which the shore of the first
-/// candidate is at hand. What is known of the graph is not sought again.
+/// candidate is at hand. What is known of the graph is not sought again. Costs what `decompose`
+/// costs, less the first `Covered::of`; the only error is `AllocError`, out of memory.
 pub fn decompose_places_from_first<'g>(
     alloc: Global,
     c: &'g Covered<'g>,

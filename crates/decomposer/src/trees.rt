@@ -20,10 +20,12 @@ pub enum Refused {
     Memory,
 }
 
-/// The tree of tight cuts that `order` picks from `g`. At the node with k cuts before it in
-/// preorder the order is asked with the candidates there and with k; the node is the cut of the
-/// candidate that it picks, and a leaf if and only if there is none. `NotCovered` comes if and
-/// only if `g` is not matching covered, with the first reason.
+/// The tree of tight cuts that `order` picks from `g` (Lovász 1987). At the node with k cuts before
+/// it in preorder the order is asked with the candidates there and with k; the node is the cut of
+/// the candidate that it picks, and a leaf if and only if there is none. `NotCovered` comes if and
+/// only if `g` is not matching covered, with the first reason; the other error is `Memory`. At each
+/// of fewer than n nodes it costs what `KnownPlace::of` and `candidates` cost there, or
+/// `first_candidate` for an order that takes the first.
 pub fn decompose<O: Order>(alloc: Global, g: &MultiGraph, order: &O) -> Result<Tree, Refused>
     ensures derivation { IfOk result (λ tree. IsDerivation g.now (shape_of tree)) }
     ensures picked { IfOk result (λ tree. IsPicked (O.picks order.now) g.now (shape_of tree)) }
@@ -41,8 +43,9 @@ pub fn decompose<O: Order>(alloc: Global, g: &MultiGraph, order: &O) -> Result<T
     }
 }
 
-/// The tree that `decompose` answers, of a graph that is known to be covered. What is known of the
-/// graph is not sought again.
+/// The tree that `decompose` returns, of a graph that is known to be covered. What is known of the
+/// graph is not sought again. Costs what `decompose` costs, less the first `Covered::of`; the only
+/// error is `AllocError`, out of memory.
 pub fn decompose_covered<O: Order>(
     alloc: Global,
     c: &Covered,

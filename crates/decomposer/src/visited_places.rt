@@ -98,8 +98,10 @@ impl<'g> VisitedPlaces<'g> {
         }
     }
 
-    /// The tree of tight cuts that `order` picks from the graph, as `decompose` answers it, with
-    /// its leaves counted. Nothing is sought at a place that was visited before.
+    /// The tree of tight cuts that `order` picks from the graph, as `decompose` returns it, with
+    /// its leaves counted. Nothing is sought at a place that was visited before. Elsewhere it costs
+    /// what `decompose` costs, less the first `Covered::of`; the only error is `AllocError`, out of
+    /// memory.
     pub fn decompose<O: Order>(
         &mut self,
         alloc: Global,

@@ -33,8 +33,10 @@ use two_ears::match_core::Matching;
 /// single ear. Only where there is no such matching are the first two ears added that keep the
 /// stage matching covered together. The numbers of the list are in range and no ear is empty
 /// (`fits` and `filled`, which follow from `list`, are for calls of `check_ears` and `write_ears`
-/// with the result). The only error is `Memory`. Lovász and Plummer, "Matching Theory", section
-/// 5.4.
+/// with the result). There are at most m stages. Each takes at most n searches for partners and two
+/// augmentations, O(n^3 + m) steps on words; one where no ear does takes one maximum matching more,
+/// and so does any two of at most n/2 ears that are tried together. The only error is `Memory`.
+/// Source: Lovász and Plummer, "Matching Theory", section 5.4.
 pub fn build_ears(alloc: Global, g: &MultiGraph) -> Result<EarList, Memory>
     requires { IsCovered g.now }
     ensures list { IfOk result (λ list. IsEarList g.now (ears_of list)) }
@@ -50,7 +52,8 @@ pub fn build_ears(alloc: Global, g: &MultiGraph) -> Result<EarList, Memory>
 }
 
 /// The ear list that `build_ears` returns, of a graph that is known to be covered. It begins from
-/// the perfect matching that is known.
+/// the perfect matching that is known. Costs what `build_ears` costs, less `Covered::of`; the only
+/// error is `Memory`.
 pub fn build_ears_of(alloc: Global, c: &Covered) -> Result<EarList, Memory>
     ensures list { IfOk result (λ list. IsEarList c.now (ears_of list)) }
     ensures start { IfOk result (λ list. list.start ≡ 1) }

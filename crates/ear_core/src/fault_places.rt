@@ -19,7 +19,8 @@ use std::alloc::{AllocError as Memory, Global};
 
 /// Where the fault of a step of `list` shows: at which of its two ears, and at which edge of that
 /// ear first. Steps are counted from 1. If no ear of the step is at fault, the place names neither.
-/// No matching is made. `Memory` is lack of memory alone, for the marks of the edges.
+/// No matching is made: takes O(m + k) time for k edges in the steps up to this one. The only error
+/// is `Memory`, for the marks of the edges.
 pub fn fault_place(
     alloc: Global,
     g: &MultiGraph,

@@ -211,7 +211,8 @@ impl LineFormat for EarFormat {
 
 /// Reads an ear list for a graph of `n` vertices and `m` edges: the list that the bytes stand for,
 /// or the first line outside the format with the kind of its error. All numbers of the list are in
-/// range, and no ear is empty. Memory may run out at any time.
+/// range, and no ear is empty. The errors are `TextFault::At`, with this line and kind, and
+/// `TextFault::Memory`, which may come at any time. Takes O(b) time for b bytes.
 pub fn read_ears(alloc: Global, bytes: &[u8], n: u32, m: u32) -> Result<EarList, TextFault>
     requires { length bytes.now < 2 ^ 32 - 1 }
     ensures fits { IfOk result (λ list. FitsEars n m (ears_of list)) }

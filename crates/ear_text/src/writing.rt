@@ -58,7 +58,8 @@ fn push_steps(text: &mut String, steps: &[Step]) -> Result<(), Memory>
 /// whose ears are not empty: a header `r mcg N M`, a line `start E`, and for each step a line `ear
 /// V E1 E2 ..`, and a line `with V E1 E2 ..` after it if the step has two ears.
 ///
-/// Reading the text gives the same list, and nothing else.
+/// Reading the text gives the same list, and nothing else. Takes O(b) time for b bytes written; the
+/// only error is `Memory`.
 pub fn write_ears(alloc: Global, list: &EarList, n: u32, m: u32) -> Result<Vec<u8>, Memory>
     requires order { n ≤ 999999999 }
     requires size { m ≤ 999999999 }

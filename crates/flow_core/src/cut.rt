@@ -31,7 +31,7 @@ pub enum CutAnswer {
 ///
 /// In each round the flow grows along all shortest paths with residual capacity (Dinic), so there
 /// are fewer rounds than nodes, whatever the capacities are; it stops as soon as the flow exceeds
-/// the bound. The only error is lack of memory.
+/// the bound. Takes O(k^2 a) time at most for k nodes and a arcs; the only error is `Memory`.
 pub fn min_cut(
     alloc: Global,
     net: &Net,

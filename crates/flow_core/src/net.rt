@@ -38,7 +38,8 @@ impl Model for Net {
 }
 
 impl Net {
-    /// The net of the nodes 1 to `k` without arcs.
+    /// The net of the nodes 1 to `k` without arcs. Takes constant time and no memory; the only
+    /// error is `Memory`.
     pub fn new(alloc: Global, k: u32) -> Result<Net, Memory>
         requires { k ≤ MOST_VERTICES }
         ensures { IfOk result (λ net. net ≡ record { nodes = k; arcs = [] }) }
@@ -58,7 +59,8 @@ impl Net {
         self.total
     }
 
-    /// Appends one arc between `a` and `b` with this capacity. After `Memory` the net is unchanged.
+    /// Appends one arc between `a` and `b` with this capacity. Takes constant time, averaged over
+    /// the calls; the only error is `Memory`, and the net is then unchanged.
     pub fn add(&mut self, a: u32, b: u32, capacity: u64) -> Result<(), Memory>
         requires from_a { Within self.old.nodes a }
         requires to_b { Within self.old.nodes b }

@@ -8,7 +8,10 @@ use graph_core::{MultiGraph, ThreeSets};
 use graph_facts::Facts;
 use std::alloc::{AllocError as Memory, Global};
 
-/// The Gallai-Edmonds sets of `g`. The only error is `Memory`.
+/// The Gallai-Edmonds sets of `g`: D, the vertices that some maximum matching misses; A, the other
+/// vertices adjacent to D; and C, the rest (Gallai 1964; Edmonds 1965; Lovász and Plummer,
+/// "Matching Theory", chapter 3). Costs what `Facts::of` costs, O(n^4 + m) steps on words at most;
+/// the only error is `Memory`.
 pub fn sets(alloc: Global, g: &MultiGraph) -> Result<ThreeSets, Memory>
     ensures d { IfOk result (λ s. Lists g.now.order s.d (InD g.now)) }
     ensures a { IfOk result (λ s. Lists g.now.order s.a (InA g.now)) }

@@ -21,7 +21,8 @@ use std::alloc::Global;
 /// 2, while every other error is at line 1); a byte is outside 63 to 126 (Range); a long size is
 /// cut short (Missing), is of 36 bits (Limit) or is at most 62 (LongForm); more than
 /// `MOST_VERTICES` vertices (Limit); the data are too short (Missing) or too long (Extra); a
-/// padding bit is set (Padding); more than `MOST_EDGES` edges (Limit).
+/// padding bit is set (Padding); more than `MOST_EDGES` edges (Limit). The other error is `Memory`.
+/// Takes O(n^2) time.
 pub fn read_graph6(alloc: Global, bytes: &[u8]) -> Result<MultiGraph, TextFault>
     ensures value { IfOk result (λ g. outcome_of bytes.now ≡ Ok g) }
     ensures simple { IfOk result IsSimple }

@@ -11,8 +11,8 @@ use graph_core::MultiGraph;
 use std::alloc::{AllocError as Memory, Global};
 
 /// The graph6 text of a simple graph, without header and line end. Reading it gives a simple graph
-/// of the same order with the same adjacent pairs. Takes memory for the text and for one bit per
-/// pair of vertices.
+/// of the same order with the same adjacent pairs. Takes O(n^2) time, and memory for the text and
+/// for one truth value per pair of vertices; the only error is `Memory`.
 pub fn write_graph6(alloc: Global, g: &MultiGraph) -> Result<Vec<u8>, Memory>
     requires { IsSimple g.now }
     ensures text { IfOk result (λ text. text.items ≡ graph6_of g.now) }
@@ -24,8 +24,8 @@ pub fn write_graph6(alloc: Global, g: &MultiGraph) -> Result<Vec<u8>, Memory>
     Ok(text)
 }
 
-/// Appends the text that `write_graph6` returns. Takes memory for it and for one bit per pair of
-/// vertices.
+/// Appends the text that `write_graph6` returns. Takes O(n^2) time, and memory for it and for one
+/// truth value per pair of vertices; the only error is `Memory`.
 #[tactic(auto, unfolding(crate::specs::Writing::graph6_of))]
 pub fn push_graph6(alloc: Global, text: &mut Vec<u8>, g: &MultiGraph) -> Result<(), Memory>
     requires { IsSimple g.now }

@@ -55,8 +55,8 @@ fn holds(cuts: &[VSet], shore: VSet) -> bool
 }
 
 /// Appends ∂(`shore`) by its canonical shore, the one without the highest-numbered vertex `n`. The
-/// cut is left out if a side has fewer than three vertices or the list has it already. After
-/// `Memory` the list is unchanged. Takes one pass over the list.
+/// cut is left out if a side has fewer than three vertices or the list has it already. Takes O(k)
+/// time for k cuts in the list; the only error is `Memory`, and the list is then unchanged.
 pub fn add_cut(cuts: &mut SetList, n: u32, shore: VSet) -> Result<(), Memory>
     requires { Within MOST_VERTICES n }
     ensures ok { OnOk result (cuts.new ≡ with_cut n cuts.old shore) }
@@ -69,7 +69,9 @@ pub fn add_cut(cuts: &mut SetList, n: u32, shore: VSet) -> Result<(), Memory>
     Ok(())
 }
 
-/// Appends the cuts of all the shores in order, as `add_cut` does.
+/// Appends the cuts of all the shores in order, as `add_cut` does. Takes O(k) time for each shore,
+/// if the list then has k cuts; the only error is `Memory`, and the cuts of some first shores may
+/// then be in the list.
 pub fn add_cuts(cuts: &mut SetList, n: u32, shores: &SetList) -> Result<(), Memory>
     requires { Within MOST_VERTICES n }
     ensures { OnOk result (cuts.new ≡ fold (with_cut n) cuts.old shores.now) }

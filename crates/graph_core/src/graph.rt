@@ -160,6 +160,7 @@ impl MultiGraph {
     /// Appends an edge and returns its number. `Range` comes if and only if an end is not a vertex,
     /// `Loop` if and only if both are vertices and equal, `TooMany` if and only if neither holds
     /// and there are `MOST_EDGES` edges. After an error, `Memory` included, the graph is unchanged.
+    /// Takes constant time, averaged over the calls.
     pub fn add_edge(&mut self, a: u32, b: u32) -> Result<u32, AddFault>
         ensures ok { IfOk result (λ e. (self.new ≡ with_edge self.old a b) × (e ≡ size self.new)) }
         ensures err { OnErr result (self.new ≡ self.old) }
@@ -184,7 +185,8 @@ impl MultiGraph {
     }
 
     /// Appends an edge between two different vertices of a graph with fewer than `MOST_EDGES`
-    /// edges. After `Memory` the graph is unchanged.
+    /// edges. Takes constant time, averaged over the calls; the only error is `Memory`, and the
+    /// graph is then unchanged.
     pub fn push_edge(&mut self, edge: Ends) -> Result<(), Memory>
         requires first { Within self.old.order edge.a }
         requires second { Within self.old.order edge.b }

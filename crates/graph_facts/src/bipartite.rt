@@ -65,7 +65,7 @@ impl<'c, 'g> Bipartite<'c, 'g> {
         self.covered.keeps_covered();
     }
 
-    /// A copy of a perfect matching.
+    /// A copy of a perfect matching. Takes O(n) time; the only error is `Memory`.
     pub fn own_matching(&self, alloc: Global) -> Result<Matching, Memory>
         ensures of { IfOk result (IsOf self.now) }
         ensures perfect { IfOk result (λ m. IsPerfect self.now none (mem (edges_of m))) }

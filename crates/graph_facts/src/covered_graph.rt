@@ -67,6 +67,9 @@ fn parts_of(alloc: Global, g: &MultiGraph) -> Result<Parts, Memory>
 impl<'g> Covered<'g> {
     /// The graph as a covered one, or the first reason why it is not matching covered, in the order
     /// `Small`, `Parted`, `Unmatched`, `Unallowed`. Nothing is computed after the first reason.
+    /// Takes one maximum matching and n searches, O(n^4 + m) steps on words at most (see `frame` of
+    /// `match_core`); the only error is `Memory`. Source: Lovász and Plummer, "Matching Theory",
+    /// chapter 5.
     pub fn of(alloc: Global, g: &'g MultiGraph) -> Result<Result<Covered<'g>, Reason>, Memory>
         ensures covered { IfOk result (λ r. IfOk r (λ c. c ≡ g.now)) }
         ensures reason { IfOk result
@@ -116,7 +119,8 @@ impl<'g> Covered<'g> {
         }
     }
 
-    /// A graph that is known to be covered.
+    /// A graph that is known to be covered. Costs what `Covered::of` costs; the only error is
+    /// `Memory`.
     pub fn known(alloc: Global, g: &'g MultiGraph) -> Result<Covered<'g>, Memory>
         requires { IsCovered g.now }
         ensures { IfOk result (λ c. c ≡ g.now) }
@@ -127,7 +131,8 @@ impl<'g> Covered<'g> {
         }
     }
 
-    /// A graph that is known to be covered; the value owns it.
+    /// A graph that is known to be covered; the value owns it. Costs what `Covered::of` costs; the
+    /// only error is `Memory`.
     pub fn kept(alloc: Global, g: MultiGraph) -> Result<Covered<'g>, Memory>
         requires { IsCovered g }
         ensures { IfOk result (λ c. c ≡ g) }
@@ -238,7 +243,7 @@ impl<'g> Covered<'g> {
         &self.matching
     }
 
-    /// A copy of that perfect matching.
+    /// A copy of that perfect matching. Takes O(n) time; the only error is `Memory`.
     pub fn own_matching(&self, alloc: Global) -> Result<Matching, Memory>
         ensures of { IfOk result (IsOf self.now) }
         ensures perfect { IfOk result (λ m. IsPerfect self.now none (mem (edges_of m))) }

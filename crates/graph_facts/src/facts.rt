@@ -35,7 +35,9 @@ impl<'g> Model for Facts<'g> {
 }
 
 impl<'g> Facts<'g> {
-    /// The facts of `g`: one search for its components and its side, and one for each other.
+    /// The facts of `g`: one search for its components and its side, and one for each other. Takes
+    /// one maximum matching and at most n searches, O(n^4 + m) steps on words at most (see `frame`
+    /// of `match_core`); the only error is `Memory`.
     pub fn of(alloc: Global, g: &'g MultiGraph) -> Result<Facts<'g>, Memory>
         ensures { IfOk result (λ facts. facts ≡ g.now) }
     {
@@ -119,14 +121,16 @@ impl<'g> Facts<'g> {
         &self.table
     }
 
-    /// Whether the graph is matching covered, and if not, the first reason. Takes no memory.
+    /// Whether the graph is matching covered, and if not, the first reason. Takes no memory, and
+    /// O(n + m) time.
     pub fn verdict(&self) -> Verdict
         ensures { IsVerdict self.now result }
     {
         verdict_in(self.graph, &self.parts, &self.frame.found, &self.table)
     }
 
-    /// The edges that lie in perfect matchings, in increasing order.
+    /// The edges that lie in perfect matchings, in increasing order. Takes O(m) time; the only
+    /// error is `Memory`.
     pub fn allowed(&self, alloc: Global) -> Result<Numbers, Memory>
         ensures { IfOk result (λ edges. Lists (size self.now) edges (Allowed self.now)) }
     {

@@ -195,7 +195,8 @@ impl LineFormat for EitherVersion {
 
 /// Reads a graph in either version of the format: the graph that the bytes stand for, with the
 /// names of its vertices in version 2 and none in version 1, or the first line outside the format
-/// with the kind of its error. Memory may run out at any time.
+/// with the kind of its error. The errors are `TextFault::At`, with this line and kind, and
+/// `TextFault::Memory`, which may come at any time. Takes O(b) time for b bytes.
 pub fn read_any(alloc: Global, bytes: &[u8]) -> Result<Named, TextFault>
     requires { length bytes.now < 2 ^ 32 - 1 }
     ensures value { IfOk result (λ named. Stands either_version bytes.now (named_graph named)) }

@@ -133,7 +133,7 @@ impl Names {
         Some(place as u32 + 1)
     }
 
-    /// Appends a name.
+    /// Appends a name. Takes constant time, averaged over the calls; the only error is `Memory`.
     pub fn push(&mut self, alloc: Global, name: &str) -> Result<(), Memory>
         requires is { is_name name.now ≡ true }
         requires new { is_among self.old name.now ≡ false }
@@ -161,7 +161,7 @@ fn push_plain(alloc: Global, names: &mut Names, vertex: u32) -> Result<(), Memor
 }
 
 /// The default names of `n` vertices: `v1`, `v2` and so on. The name of vertex k is `v` and k in
-/// decimal.
+/// decimal. Takes O(n) time; the only error is `Memory`.
 pub fn plain_names(alloc: Global, n: u32) -> Result<Names, Memory>
     requires { n ≤ MOST_VERTICES }
     ensures names { IfOk result (λ names. names ≡ plain_names n) }

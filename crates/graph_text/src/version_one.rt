@@ -82,7 +82,8 @@ impl LineFormat for VersionOne {
 }
 
 /// Reads a graph in version 1 of the format: the graph that the bytes stand for, or the first line
-/// outside the format with the kind of its error. Memory may run out at any time.
+/// outside the format with the kind of its error. The errors are `TextFault::At`, with this line
+/// and kind, and `TextFault::Memory`, which may come at any time. Takes O(b) time for b bytes.
 pub fn read_graph(alloc: Global, bytes: &[u8]) -> Result<MultiGraph, TextFault>
     requires { length bytes.now < 2 ^ 32 - 1 }
     ensures value { IfOk result (λ g. Stands version_one bytes.now g) }

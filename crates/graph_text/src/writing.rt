@@ -35,7 +35,8 @@ fn push_edges(text: &mut String, g: &MultiGraph) -> Result<(), Memory>
 /// N M` with the numbers of vertices and edges, and a line `e A B` for each edge, in the order of
 /// their numbers, with its ends in their order.
 ///
-/// Reading the text gives the same graph, and nothing else.
+/// Reading the text gives the same graph, and nothing else. Takes O(n + m) time; the only error is
+/// `Memory`.
 pub fn write_graph(alloc: Global, g: &MultiGraph) -> Result<Vec<u8>, Memory>
     requires vertices { g.now.order ≤ most_vertices }
     requires edges { size g.now ≤ most_edges }
@@ -102,7 +103,8 @@ fn push_named_edges(text: &mut String, g: &MultiGraph, names: &Names) -> Result<
 /// header `p mcg2 N M`, a line `v NAME` for each vertex, and a line `e X Y` for each edge, in the
 /// order of their numbers, with the names of its ends in their order.
 ///
-/// Reading the text gives the same graph and names, and nothing else.
+/// Reading the text gives the same graph and names, and nothing else. Takes O(n + m) time; the only
+/// error is `Memory`.
 pub fn write_named(alloc: Global, g: &MultiGraph, names: &Names) -> Result<Vec<u8>, Memory>
     requires { length names.now ≡ g.now.order }
     ensures text { IfOk result (λ text. text.items ≡ named_text g.now names.now) }

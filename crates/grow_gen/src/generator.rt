@@ -20,7 +20,8 @@ const STREAM: u64 = 1;
 /// The graph of a seed and a number of pieces, 1 to `MOST_PIECES`. It is cubic, simple and matching
 /// covered, and the same on every machine. It starts as K3,3; the further pieces are K4, K3,3, a
 /// prism and a cube in turn, each spliced by its vertex 1 at a vertex that two pseudo-random words
-/// pick. Twelve pieces give 48 vertices, sixteen give 64.
+/// pick. Twelve pieces give 48 vertices, sixteen give 64. Takes O(p^2) time for p pieces; the only
+/// error is `Memory`.
 pub fn grow(alloc: Global, seed: u64, pieces: u32) -> Result<MultiGraph, Memory>
     requires { Within MOST_PIECES pieces }
     ensures graph { IfOk result (λ g. g ≡ grown seed pieces) }

@@ -15,7 +15,7 @@ use tight_cuts::separation_kit::{FirstPairs, brick_law};
 /// The kind of a covered graph (Lovász 1987): composite if and only if it has a nontrivial tight
 /// cut, with the shore that `find_any` returns; otherwise a brace if it is bipartite, and a brick
 /// if not. A graph that is called a brick has at least four vertices, is bicritical and has no cut
-/// pair.
+/// pair. Costs what `find_any` costs; the only error is `Memory`.
 pub fn kind(alloc: Global, g: &MultiGraph) -> Result<Kind, Memory>
     requires { IsCovered g.now }
     ensures kind { IfOk result (IsKind g.now) }
@@ -26,7 +26,8 @@ pub fn kind(alloc: Global, g: &MultiGraph) -> Result<Kind, Memory>
     kind_of(alloc, &FirstPairs::of(&covered))
 }
 
-/// The kind that `kind` returns, of a covered graph with its first pairs.
+/// The kind that `kind` returns, of a covered graph with its first pairs. Costs what
+/// `first_candidate` costs; the only error is `Memory`.
 pub fn kind_of(alloc: Global, pairs: &FirstPairs) -> Result<Kind, Memory>
     ensures kind { IfOk result (IsKind pairs.now) }
     ensures cut { IfOk result (λ kind. cut_of kind ≡ first_shore (candidates pairs.now)) }

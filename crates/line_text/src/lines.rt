@@ -22,7 +22,8 @@ fn line_len(text: &[u8]) -> usize
 /// the text is empty.
 ///
 /// Called on the rest each time, it walks through a text line by line: `a` and `a` with a line feed
-/// have one line, a line feed alone has one empty line, and an empty text has no line.
+/// have one line, a line feed alone has one empty line, and an empty text has no line. Takes O(b)
+/// time for a line of b bytes.
 pub fn split_line(text: &[u8]) -> Option<(&[u8], &[u8])>
     ensures none { IsNone result ↔ (text.now ≡ []) }
     ensures line { IfSome result (λ found. found.0.now ≡ before_first is_line_feed text.now) }

@@ -36,7 +36,7 @@ fn value_of_digits(digits: &[u8]) -> u32
 /// leading zeros allowed.
 ///
 /// `None` if and only if the word is not a number: it is empty, has more than nine bytes, or one
-/// that is not an ASCII digit.
+/// that is not an ASCII digit. Takes constant time.
 #[tactic(auto, unfolding(crate::specs::Numerals::number_of))]
 pub fn number(word: &[u8]) -> Option<u32>
     ensures { result ≡ number_of word.now }
@@ -49,7 +49,7 @@ pub fn number(word: &[u8]) -> Option<u32>
 }
 
 /// The numbers that words write, in their order; `None` if and only if one of the words is not a
-/// number.
+/// number. Takes O(k) time for k words; the only error is `Memory`.
 pub fn numbers(alloc: Global, words: &[&[u8]]) -> Result<Option<Vec<u32>>, Memory>
     ensures { IfOk result
         (λ found. option_map (λ values. values.items) found ≡ numbers_of (texts_of words.now)) }

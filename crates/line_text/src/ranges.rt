@@ -10,7 +10,7 @@ pub fn is_out_of_range(n: u32, v: u32) -> bool
     v == 0 || v > n
 }
 
-/// Whether one of the numbers is 0 or over `n`. Takes no memory.
+/// Whether one of the numbers is 0 or over `n`. Takes no memory, and O(k) time for k numbers.
 pub fn has_out_of_range(n: u32, numbers: &[u32]) -> bool
     ensures { result ≡ list_any (is_out_of_range n) numbers.now }
 {

@@ -9,7 +9,8 @@ use crate::reading::read;
 use std::alloc::Global;
 
 /// Reads a text by the rules of a format: the value that it stands for, or the first line outside
-/// the format with the kind of its error. Memory may run out at any time.
+/// the format with the kind of its error. The errors are those of `TextFault`: `At`, with this line
+/// and kind, and `Memory`, which may come at any time. Costs what `read` costs.
 pub fn read_text<F: LineFormat<Kind = FaultKind>>(
     alloc: Global,
     format: &F,

@@ -81,8 +81,7 @@ fn read_lines<F: LineFormat>(
 /// `Ok` comes if and only if the text stands for a value, which is then returned, and
 /// `LineFault::At` if and only if it has a first error, with its line and kind; `LineFault::Memory`
 /// may come instead of either. Of the format only `header`, `line` and `close` are called, once for
-/// each line that is not skipped and once for the end. The time of the rest is linear in the number
-/// of bytes.
+/// each line that is not skipped and once for the end. The rest takes O(b) time for b bytes.
 pub fn read<F: LineFormat>(
     alloc: Global,
     format: &F,

@@ -16,7 +16,8 @@ fn is_blank(byte: u8) -> bool
 /// The words of a line, as pieces of it: its longest runs of bytes that are neither space, tab nor
 /// carriage return.
 ///
-/// Takes memory only for the list of the pieces.
+/// Takes O(b) time for b bytes, and memory only for the list of the pieces; the only error is
+/// `Memory`.
 pub fn split_words(alloc: Global, line: &[u8]) -> Result<Vec<&[u8]>, Memory>
     ensures { IfOk result (λ found. texts_of found.items ≡ words_of line.now) }
 {
@@ -36,7 +37,7 @@ pub fn is_skipped(words: &[&[u8]]) -> bool
     }
 }
 
-/// The word at a place, counted from 0, or the empty word if there is none.
+/// The word at a place, counted from 0, or the empty word if there is none. Takes constant time.
 pub fn word<'a>(words: &[&'a [u8]], place: usize) -> &'a [u8]
     ensures { result.now ≡ word_at (texts_of words.now) place }
 {
@@ -62,6 +63,7 @@ fn start_with(words: &[&[u8]], keywords: &[&str]) -> bool
 }
 
 /// Whether there are exactly `count` words, the first of which are the keywords, in their order.
+/// Takes O(b) time for b bytes in the keywords.
 #[tactic(auto, unfolding(crate::specs::Words::has_form))]
 pub fn has_form(words: &[&[u8]], count: usize, keywords: &[&str]) -> bool
     ensures { result ≡ has_form (texts_of words.now) count (texts_of keywords.now) }

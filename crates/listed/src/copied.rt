@@ -65,7 +65,8 @@ impl<T: Copy> CopyList<T> {
         self.items[i] = item;
     }
 
-    /// Appends an item. After `Memory` the list is unchanged.
+    /// Appends an item. Takes constant time, averaged over the calls; the only error is `Memory`,
+    /// and the list is then unchanged.
     pub fn push(&mut self, item: T) -> Result<(), Memory>
         ensures ok { OnOk result (self.new ≡ self.old ++ item ∷ []) }
         ensures err { OnErr result (self.new ≡ self.old) }

@@ -51,7 +51,8 @@ impl<T: Drop> Listed<T> {
         &self.items[i]
     }
 
-    /// Appends an item. After `Memory` the list is unchanged, and the item is dropped.
+    /// Appends an item. Takes constant time, averaged over the calls; the only error is `Memory`,
+    /// and the list is then unchanged and the item dropped.
     pub fn push(&mut self, item: T) -> Result<(), Memory>
         ensures ok { OnOk result (self.new ≡ self.old ++ item ∷ []) }
         ensures err { OnErr result (self.new ≡ self.old) }

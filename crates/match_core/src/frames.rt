@@ -30,7 +30,7 @@ pub struct FrameSets {
 }
 
 /// A maximum matching of `g` and a Berge set S, here `berge`: the matching misses exactly o(S) -
-/// |S| vertices (Tutte 1947, Berge 1958; found as by Edmonds 1965). Costs as much as `frame`; the
+/// |S| vertices (Tutte 1947, Berge 1958; found as by Edmonds 1965). Costs what `frame` costs; the
 /// only error is `Memory`.
 pub fn maximum(alloc: Global, g: &MultiGraph) -> Result<Found, Memory>
     ensures of { IfOk result (λ f. IsOf g.now f.matching) }
@@ -45,9 +45,11 @@ pub fn maximum(alloc: Global, g: &MultiGraph) -> Result<Found, Memory>
 /// A maximum matching of `g` with the Gallai-Edmonds sets, read off the last forest of the search
 /// (Lovász and Plummer, "Matching Theory", chapter 3). The outer set is D, the vertices that some
 /// maximum matching misses; it is the union of the odd components of G - A. The inner set is A, the
-/// other vertices adjacent to D, and is the Berge set. Takes at most n/2 augmentations, each with
-/// at most n/2 shrinkings and a search after each; the list of edges is read only at the beginning
-/// and at the end. The only error is `Memory`.
+/// other vertices adjacent to D, and is the Berge set. Takes at most n/2 augmentations. Each
+/// shrinks at most n/2 blossoms and grows a forest after each shrinking, by O(n^3) steps on words
+/// at most; in a bipartite graph it takes O(n). The list of edges is read only at the beginning and
+/// at the end, so this is O(n^4 + m) at most, and O(n^2 + m) in a bipartite graph. The only error
+/// is `Memory`.
 pub fn frame(alloc: Global, g: &MultiGraph) -> Result<FrameSets, Memory>
     ensures of { IfOk result (λ f. IsOf g.now f.found.matching) }
     ensures maximum { IfOk result (λ f. IsMaximum g.now none (mem (edges_of f.found.matching))) }

@@ -40,7 +40,8 @@ impl<'g> Model for LazyPartners<'g> {
 
 impl<'g> LazyPartners<'g> {
     /// No row yet. Each search starts from the edges of `m`, a matching of `g`, that meet no vertex
-    /// of `removed`; the fewer vertices of G - removed they miss, the faster the search ends.
+    /// of `removed`; the fewer vertices of G - removed they miss, the faster the search ends. Takes
+    /// O(n) time; the only error is `Memory`.
     pub fn new(
         alloc: Global,
         g: &'g MultiGraph,
@@ -62,7 +63,9 @@ impl<'g> LazyPartners<'g> {
         })
     }
 
-    /// The partners of `u`. The first call for a vertex takes one search, later calls none.
+    /// The partners of `u`. The first call for a vertex takes one search, O(n^2) steps on words, if
+    /// the matching is perfect in G - removed, and otherwise augmentations too, O(n^4) at most;
+    /// later calls take constant time. The only error is `Memory`.
     pub fn of(&mut self, alloc: Global, u: u32) -> Result<VSet, Memory>
         requires { Within self.old.graph.order u }
         ensures row { IfOk result

@@ -64,7 +64,8 @@ impl Matching {
     }
 
     /// The matching with the same order and the rows that meet no vertex of `removed`. If it is a
-    /// matching of a graph G, the new one is a matching of G - removed.
+    /// matching of a graph G, the new one is a matching of G - removed. Takes O(n) time; the only
+    /// error is `Memory`.
     pub fn cleared(&self, alloc: Global, removed: VSet) -> Result<Matching, Memory>
         ensures order { IfOk result (λ m. m.order ≡ self.now.order) }
         ensures rows { IfOk result (λ m. m.rows ≡ filter (is_clear (mem removed)) self.now.rows) }
@@ -83,6 +84,7 @@ impl Matching {
     }
 
     /// The matching of `g` with the same edges and also edge `e`, whose ends it does not meet.
+    /// Takes O(n) time; the only error is `Memory`.
     pub fn joined(&self, alloc: Global, g: &MultiGraph, e: u32) -> Result<Matching, Memory>
         requires of { IsOf g.now self.now }
         requires edge { Within (size g.now) e }
@@ -162,7 +164,8 @@ fn clear_rows(alloc: Global, rows: &[MatchRow], removed: VSet) -> Result<Vec<Mat
     Ok(kept)
 }
 
-/// The matching of `g` whose edges are the marked ones.
+/// The matching of `g` whose edges are the marked ones. Takes O(n + m) time; the only error is
+/// `Memory`.
 pub fn matching_of(alloc: Global, g: &MultiGraph, mark: &[bool]) -> Result<Matching, Memory>
     requires long { length mark.now ≡ size g.now + 1 }
     requires matching { IsMatching g.now none (marks mark.now) }

@@ -59,7 +59,8 @@ impl PartnerTable {
 /// `removed` are partners if there is a perfect matching of G - removed without these two. The row
 /// of a vertex of `removed` is empty. If `m` misses a vertex of G - removed, it is first made
 /// maximum there. If it then misses neither 0 nor 2 vertices, no row is searched; otherwise a row
-/// takes one search, after at most one augmentation. The only error is `Memory`.
+/// takes one search, after at most one augmentation: O(n^3) steps on words for all rows if `m`
+/// misses none, and O(n^4 + m) at most. The only error is `Memory`.
 pub fn partners(
     alloc: Global,
     g: &MultiGraph,
@@ -148,7 +149,8 @@ fn empty_rows(alloc: Global, n: u32) -> Result<PartnerTable, Memory>
 }
 
 /// The partners of each vertex of `g`: u and v, different, are partners if G - u - v has a perfect
-/// matching. Takes one maximum matching and at most n searches; the only error is `Memory`.
+/// matching. Takes one maximum matching and at most n searches, O(n^4 + m) steps on words at most;
+/// the only error is `Memory`.
 pub fn all_partners(alloc: Global, g: &MultiGraph) -> Result<PartnerTable, Memory>
     ensures { IfOk result (ArePartners g.now none) }
 {

@@ -12,7 +12,8 @@ use match_search::{Best, falses, find_best, is_addable, is_marked, mark_place, m
 use std::alloc::{AllocError as Memory, Global};
 
 /// A perfect matching of G - removed, as a matching of `g`; `None` if and only if G - removed has
-/// none. Takes one maximum matching; the only error is `Memory`.
+/// none. Takes one maximum matching, O(n^4 + m) steps on words at most (see `frame`); the only
+/// error is `Memory`.
 pub fn perfect_without(
     alloc: Global,
     g: &MultiGraph,
@@ -30,6 +31,8 @@ pub fn perfect_without(
 }
 
 /// A perfect matching of `g` that contains all the edges; `None` if and only if there is none.
+/// Takes one maximum matching, O(n^4 + m) steps on words at most (see `frame`); the only error is
+/// `Memory`.
 pub fn perfect_with(
     alloc: Global,
     g: &MultiGraph,

@@ -21,7 +21,8 @@ pub struct Mate {
 
 /// A perfect matching of G - removed, where `m` is a matching of it that misses exactly two
 /// vertices: the symmetric difference of the two matchings is one path between these vertices.
-/// `None` if and only if G - removed has no perfect matching.
+/// `None` if and only if G - removed has no perfect matching. Takes one augmentation, O(n^3 + m)
+/// steps on words at most; the only error is `Memory`.
 pub fn repair(
     alloc: Global,
     g: &MultiGraph,

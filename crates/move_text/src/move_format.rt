@@ -146,8 +146,9 @@ impl LineFormat for MoveFormat {
 
 /// Reads moves on trees of cuts over 1 to `n`: the moves that the bytes stand for, or the first
 /// line outside the format with the kind of its error. There are at most 20,000 moves, each path
-/// has at most 127 steps, and the sets are not empty and lie within 1 to `n`. Memory may run out at
-/// any time.
+/// has at most 127 steps, and the sets are not empty and lie within 1 to `n`. The errors are
+/// `TextFault::At`, with this line and kind, and `TextFault::Memory`, which may come at any time.
+/// Takes O(b) time for b bytes.
 pub fn read_moves(alloc: Global, bytes: &[u8], n: u32) -> Result<Moves, TextFault>
     requires order { n ≤ MOST_VERTICES }
     requires length { length bytes.now < 2 ^ 32 - 1 }

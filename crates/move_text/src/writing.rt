@@ -91,7 +91,8 @@ fn push_switch(text: &mut String, path: &Path, u: VSet, v: VSet) -> Result<(), M
 }
 
 /// Appends the line for a move in a text of moves: `rotate PATH`, or `switch PATH U V` with the
-/// sets of the move, whatever they are.
+/// sets of the move, whatever they are. Takes O(b) time for b bytes written; the only error is
+/// `Memory`.
 pub fn push_move(text: &mut String, item: &Move) -> Result<(), Memory>
     ensures text { OnOk result
         (string_bytes text.new ≡ string_bytes text.old ++
@@ -112,7 +113,8 @@ pub fn push_move(text: &mut String, item: &Move) -> Result<(), Memory>
 /// `rotate PATH` or `switch PATH U V`. There are at most 20,000 moves, each path has at most 127
 /// steps, and the sets are not empty and lie within 1 to `n`.
 ///
-/// Reading the text gives the same moves, and nothing else.
+/// Reading the text gives the same moves, and nothing else. Takes O(b) time for b bytes written;
+/// the only error is `Memory`.
 pub fn write_moves(alloc: Global, moves: &Moves, n: u32) -> Result<Vec<u8>, Memory>
     requires order { n ≤ 999999999 }
     requires few { length moves.now ≤ most_moves }

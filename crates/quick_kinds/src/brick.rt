@@ -13,8 +13,9 @@ use std::alloc::{AllocError as Memory, Global};
 /// A nontrivial tight cut of a nonbipartite covered graph, by its canonical shore: the first of
 /// `barrier_cuts`, or if there is none, the first of `separation_cuts`. `None` comes if and only if
 /// no nontrivial shore is tight, that is, for the bricks (clause `brick`), which are the graphs
-/// that are bicritical and have no cut pair (Edmonds, Lovász and Pulleyblank 1982). The only error
-/// is `Memory`.
+/// that are bicritical and have no cut pair (Edmonds, Lovász and Pulleyblank 1982). Costs what
+/// `barrier_cuts` costs, and what `separation_cuts` costs if there is no barrier cut; the only
+/// error is `Memory`.
 pub fn quick_brick(alloc: Global, g: &MultiGraph) -> Result<Option<VSet>, Memory>
     requires covered { IsCovered g.now }
     requires odd { ¬ (IsBipartite g.now) }

@@ -106,7 +106,7 @@ fn push_any_structure(text: &mut String, structure: &Option<Structure>) -> Resul
 }
 
 /// Writes the lines of `analyse`: those of every graph, and then those on the structure, if there
-/// is one.
+/// is one. Takes O(b) time for b bytes written; the only error is `Memory`.
 #[tactic(auto, unfolding(crate::specs::Analyses::analysis_text))]
 pub fn analysis(alloc: Global, lines: &AnalysisLines) -> Result<Vec<u8>, Memory>
     ensures { IfOk result (λ text. text.items ≡ analysis_text lines.now) }

@@ -27,7 +27,8 @@ pub struct MapLine {
 /// What is reported about the leaves of the first tree.
 pub type MapLines = Listed<MapLine>;
 
-/// The names of the blocks of a partition, in order: the highest-numbered vertex of each.
+/// The names of the blocks of a partition, in order: the highest-numbered vertex of each. Takes
+/// O(k) time for k blocks; the only error is `Memory`.
 pub fn block_names(alloc: Global, p: &Partition) -> Result<Numbers, Memory>
     ensures { IfOk result (λ names. names ≡ names_of p.now.blocks) }
 {
@@ -116,7 +117,8 @@ fn push_maps(text: &mut String, maps: &[MapLine]) -> Result<(), Memory>
 
 /// Writes how many leaves there are and how many moves, the moves in order, and for each leaf its
 /// partner and, for each of its blocks, the block's name and that of its image. If a leaf has more
-/// names than images, or more images than names, the surplus is left out.
+/// names than images, or more images than names, the surplus is left out. Takes O(b) time for b
+/// bytes written; the only error is `Memory`.
 #[tactic(auto, unfolding(crate::specs::Comparisons::pairing_text))]
 pub fn pairing(alloc: Global, moves: &Moves, maps: &MapLines) -> Result<Vec<u8>, Memory>
     ensures { IfOk result (λ text. text.items ≡ pairing_text (moves_of moves.now) maps.now) }

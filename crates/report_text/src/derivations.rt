@@ -229,7 +229,8 @@ fn comments_at_places(alloc: Global, leaves: &[KnownPlace]) -> Result<String, Me
 /// Writes the text and then comments on the leaves, which are at these partitions of the vertices
 /// of `g`: for each leaf its number and kind, its blocks, and for each pair of adjacent blocks
 /// their names and the edges of `g` between them; last the number of leaves. A leaf is called a
-/// brace if and only if its quotient is bipartite, and a brick otherwise.
+/// brace if and only if its quotient is bipartite, and a brick otherwise. Takes O(n (n + m)) time
+/// for each leaf, and O(b) for b bytes written; the only error is `Memory`.
 #[tactic(auto, unfolding(crate::specs::Derivations::derivation_text))]
 pub fn derivation(
     alloc: Global,
@@ -250,7 +251,8 @@ pub fn derivation(
 }
 
 /// The report that `derivation` writes, of leaves that are places of one graph: their kinds and
-/// their quotients are at hand.
+/// their quotients are at hand. Takes O(n (n + m)) time for each leaf, and O(b) for b bytes
+/// written; the only error is `Memory`.
 #[tactic(auto, unfolding(crate::specs::Derivations::derivation_text))]
 pub fn derivation_at(alloc: Global, text: &[u8], leaves: &[KnownPlace]) -> Result<Vec<u8>, Memory>
     requires places { (g : Graph) × (ps : List (List (List ℕ))) ×

@@ -66,7 +66,8 @@ fn push_ear_judgement(text: &mut String, line: EarLine) -> Result<(), Memory>
     }
 }
 
-/// Writes the line on an ear list: how many steps it has, or where and why it fails.
+/// Writes the line on an ear list: how many steps it has, or where and why it fails. Takes O(b)
+/// time for b bytes written; the only error is `Memory`.
 pub fn ear_judgement(alloc: Global, line: &EarLine) -> Result<Vec<u8>, Memory>
     ensures { IfOk result (λ text. text.items ≡ ear_judgement_text line.now) }
 {

@@ -14,7 +14,7 @@ fn line_of_steps(alloc: Global, steps: u32, single: u32, double: u32) -> Result<
 }
 
 /// Writes the text and then, as a comment, the number of steps, of those with one ear, and of those
-/// with two.
+/// with two. Takes O(b) time for b bytes written; the only error is `Memory`.
 #[tactic(auto, unfolding(crate::specs::EarReports::ears_report_text))]
 pub fn ears_report(
     alloc: Global,

@@ -4,7 +4,8 @@ ghost use Rattle.report_text.specs.Common.{graph6_line};
 
 use std::alloc::{AllocError as Memory, Global};
 
-/// Writes the report and then one line: the word `graph6`, a space, and the text.
+/// Writes the report and then one line: the word `graph6`, a space, and the text. Takes O(b) time
+/// for b bytes written; the only error is `Memory`.
 pub fn graph6_line(alloc: Global, report: &[u8], text: &[u8]) -> Result<Vec<u8>, Memory>
     ensures { IfOk result (λ lines. lines.items ≡ graph6_line report.now text.now) }
 {

@@ -33,7 +33,8 @@ fn growth_comments(alloc: Global, first: Tally, last: Tally, pairs: u32) -> Resu
 }
 
 /// Writes the text and then, as comments, the numbers of leaves of a decomposition by first
-/// candidates and of one by last candidates, and how many leaves their comparison pairs.
+/// candidates and of one by last candidates, and how many leaves their comparison pairs. Takes O(b)
+/// time for b bytes written; the only error is `Memory`.
 #[tactic(auto, unfolding(crate::specs::Growths::grown_text))]
 pub fn grown(
     alloc: Global,

@@ -106,7 +106,7 @@ fn push_judgement(text: &mut String, line: &TreeLine) -> Result<(), Memory>
 }
 
 /// Writes the line on a tree: how many leaves it has, or where and why it is refused, and what
-/// shows it.
+/// shows it. Takes O(b) time for b bytes written; the only error is `Memory`.
 pub fn judgement(alloc: Global, line: &TreeLine) -> Result<Vec<u8>, Memory>
     ensures { IfOk result (λ text. text.items ≡ judgement_text line.now) }
 {

@@ -22,7 +22,8 @@ fn push_name(
 
 /// Writes the report and then one line `name K NAME` for each name, in order, where K is the number
 /// of the vertex. If `comments` is true, each of these lines begins with `c` and a space and is a
-/// comment, so a report that is a text of some format remains one.
+/// comment, so a report that is a text of some format remains one. Takes O(b) time for b bytes
+/// written; the only error is `Memory`.
 #[tactic(auto, unfolding(crate::specs::Reports::with_names_text))]
 pub fn with_names(
     alloc: Global,

@@ -14,7 +14,8 @@ fn line_of_script(alloc: Global, leaves: u32, moves: u32) -> Result<String, Memo
     Ok(line)
 }
 
-/// Writes the text and then, as a comment, how many leaves and how many moves there are.
+/// Writes the text and then, as a comment, how many leaves and how many moves there are. Takes O(b)
+/// time for b bytes written; the only error is `Memory`.
 #[tactic(auto, unfolding(crate::specs::Scripts::script_report_text))]
 pub fn script_report(alloc: Global, text: &[u8], leaves: u32, moves: u32) -> Result<Vec<u8>, Memory>
     ensures { IfOk result (λ report. report.items ≡ script_report_text text.now leaves moves) }
@@ -30,7 +31,8 @@ fn line_of_moves(alloc: Global, moves: u32) -> Result<String, Memory>
     format!(in alloc; "c moves {moves}\n")
 }
 
-/// Writes the text and then, as a comment, how many moves there are.
+/// Writes the text and then, as a comment, how many moves there are. Takes O(b) time for b bytes
+/// written; the only error is `Memory`.
 #[tactic(auto, unfolding(crate::specs::Scripts::replayed_text))]
 pub fn replayed(alloc: Global, text: &[u8], moves: u32) -> Result<Vec<u8>, Memory>
     ensures { IfOk result (λ report. report.items ≡ replayed_text text.now moves) }
@@ -39,7 +41,8 @@ pub fn replayed(alloc: Global, text: &[u8], moves: u32) -> Result<Vec<u8>, Memor
     commented(alloc, text, line.as_str())
 }
 
-/// Writes the line on a move, given by its number from 1, that has no result.
+/// Writes the line on a move, given by its number from 1, that has no result. Takes O(b) time for b
+/// bytes written; the only error is `Memory`.
 #[tactic(auto, unfolding(crate::specs::Scripts::stuck_text))]
 pub fn replay_stuck(alloc: Global, at: u32) -> Result<Vec<u8>, Memory>
     ensures { IfOk result (λ text. text.items ≡ stuck_text at) }
@@ -49,7 +52,8 @@ pub fn replay_stuck(alloc: Global, at: u32) -> Result<Vec<u8>, Memory>
 }
 
 /// Writes the line on a move, given by its number from 1, whose result is refused: at which node,
-/// counted from 1 in preorder, for which reason by its number, and what shows it.
+/// counted from 1 in preorder, for which reason by its number, and what shows it. Takes O(b) time
+/// for b bytes written; the only error is `Memory`.
 #[tactic(auto, unfolding(crate::specs::Scripts::refused_move_text))]
 pub fn replay_refused(
     alloc: Global,

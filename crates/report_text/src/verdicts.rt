@@ -46,7 +46,8 @@ pub fn push_verdict(text: &mut String, verdict: &Verdict) -> Result<(), Memory>
     }
 }
 
-/// Writes the line of the verdict alone.
+/// Writes the line of the verdict alone. Takes O(b) time for b bytes written; the only error is
+/// `Memory`.
 pub fn verdict_line(alloc: Global, verdict: &Verdict) -> Result<Vec<u8>, Memory>
     ensures { IfOk result (λ text. text.items ≡ verdict_text verdict.now) }
 {

@@ -34,7 +34,8 @@ impl<'c, 'g> Model for FirstPairs<'c, 'g> {
 
 impl<'c, 'g> FirstPairs<'c, 'g> {
     /// The pairs of a covered graph. A cut pair is searched for only if the graph is bicritical.
-    /// Takes no memory.
+    /// Takes no memory, O(n) steps on words, and what `first_cut_pair` costs if the graph is
+    /// bicritical, O(n^3).
     pub fn of(covered: &'c Covered<'g>) -> FirstPairs<'c, 'g>
         ensures { result ≡ covered.now }
     {
@@ -122,7 +123,7 @@ impl<'c, 'g> FirstPairs<'c, 'g> {
     }
 
     /// The first cut pair, whether the graph is bicritical or not. It is searched for only if it is
-    /// not known.
+    /// not known; then it costs what `first_cut_pair` costs.
     pub fn any_cut(&self) -> Option<Ends>
         ensures { option_map pair_of result ≡ cut_pair self.now }
     {

@@ -24,7 +24,8 @@ fn push_pairs(pairs: &mut Vec<Ends>, n: u32, a: u32) -> Result<(), Memory>
     Ok(())
 }
 
-/// The pairs of the numbers 1 to `n`, in lexicographic order.
+/// The pairs of the numbers 1 to `n`, in lexicographic order. Takes O(n^2) time; the only error is
+/// `Memory`.
 pub fn all_pairs(alloc: Global, n: u32) -> Result<Vec<Ends>, Memory>
     requires { n ≤ MOST_VERTICES }
     ensures { IfOk result (λ pairs. map pair_of pairs.items ≡ rising_pairs n) }

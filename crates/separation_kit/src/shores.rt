@@ -60,7 +60,8 @@ fn add_pair_cuts(
 
 /// The nontrivial cuts that the cut pairs u < v of a bicritical covered graph give: ∂(V(K) + u) for
 /// each component K of G - u - v. Each cut is listed once, by its canonical shore, and is tight
-/// (Edmonds, Lovász and Pulleyblank 1982). The only error is `Memory`.
+/// (Edmonds, Lovász and Pulleyblank 1982). Takes O(n^2 m) steps on words at most for the pairs, and
+/// O(k) for each component at a cut pair, if the list then has k cuts; the only error is `Memory`.
 pub fn separation_cuts(alloc: Global, g: &MultiGraph) -> Result<SetList, Memory>
     requires covered { IsCovered g.now }
     requires bicritical { IsBicritical g.now }
@@ -78,7 +79,8 @@ pub fn separation_cuts(alloc: Global, g: &MultiGraph) -> Result<SetList, Memory>
     Ok(cuts)
 }
 
-/// The first of the cuts that `separation_cuts` lists, from the first cut pair.
+/// The first of the cuts that `separation_cuts` lists, from the first cut pair. Takes O(n^2) steps
+/// on words at most; the only error is `Memory`.
 pub fn first_separation_cut(alloc: Global, pairs: &FirstPairs) -> Result<Option<VSet>, Memory>
     requires bicritical { IsBicritical pairs.now }
     requires four { 4 ≤ pairs.now.order }

@@ -13,10 +13,12 @@ use std::alloc::{AllocError as Memory, Global};
 use tree_core::KnownPlace;
 use tree_core::contraction::Partition;
 
-/// The candidates at a place: at single vertices those of the graph, in the order of its own
-/// edges, else those of the quotient, each shore taken to vertices of the graph, with `inside` and
+/// The candidates at a place: at single vertices those of the graph, in the order of its own edges,
+/// else those of the quotient, each shore taken to vertices of the graph, with `inside` and
 /// `outside` counted in blocks. Each is a canonical nontrivial shore that is tight at the place,
-/// and the list is empty exactly when no nontrivial shore is tight there (Lovász 1987).
+/// and the list is empty exactly when no nontrivial shore is tight there (Lovász 1987). Costs what
+/// `candidates` costs at the quotient, less its `Covered`, which the place has; the only error is
+/// `Memory`.
 pub fn candidates_at_place(alloc: Global, place: &KnownPlace) -> Result<CandidateList, Memory>
     ensures list { IfOk result
         (λ list. list ≡ candidates_at place.now.graph place.now.blocks) }
@@ -32,7 +34,8 @@ pub fn candidates_at_place(alloc: Global, place: &KnownPlace) -> Result<Candidat
 
 /// The candidates at a place, where clusters of vertices are known that no nontrivial tight cut
 /// there separates: edges between them are not asked. The clusters are those that are known then;
-/// they serve each place below (`Clusters::stay_below`), so that few edges are asked there.
+/// they serve each place below (`Clusters::stay_below`), so that few edges are asked there. Costs
+/// what `candidates_at_place` costs at most; the only error is `Memory`.
 pub fn candidates_from_clusters(
     alloc: Global,
     place: &KnownPlace,
@@ -55,7 +58,8 @@ pub fn candidates_from_clusters(
 }
 
 /// The first candidate at a place, and `None` exactly when no nontrivial shore is tight there. The
-/// search ends with it.
+/// search ends with it. Costs what `first_candidate` costs at the quotient; the only error is
+/// `Memory`.
 pub fn first_at_place(alloc: Global, place: &KnownPlace) -> Result<Option<Candidate>, Memory>
     ensures first { IfOk result (λ found.
         option_map candidate_of found ≡ first_of (candidates_at place.now.graph place.now.blocks)) }

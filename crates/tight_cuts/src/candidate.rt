@@ -105,7 +105,8 @@ impl CandidateList {
         &self.items
     }
 
-    /// Appends a candidate. After `Memory` the list is unchanged.
+    /// Appends a candidate. Takes constant time, averaged over the calls; the only error is
+    /// `Memory`, and the list is then unchanged.
     pub fn push(&mut self, item: Candidate) -> Result<(), Memory>
         ensures ok { OnOk result (self.new ≡ self.old ++ candidate_of item ∷ []) }
         ensures err { OnErr result (self.new ≡ self.old) }

@@ -35,7 +35,7 @@ impl Model for Clusters {
 }
 
 impl Clusters {
-    /// Each vertex alone.
+    /// Each vertex alone. Takes O(n) time; the only error is `Memory`.
     pub fn new(alloc: Global, g: &MultiGraph) -> Result<Clusters, Memory>
         ensures graph { IfOk result (AreClusters g.now) }
         ensures places { (p : List (List ℕ)) → IfOk result (AreClustersAt g.now p) }
@@ -44,7 +44,7 @@ impl Clusters {
         Ok(Clusters { sets })
     }
 
-    /// A copy.
+    /// A copy. Takes O(n) time; the only error is `Memory`.
     pub fn copy(&self, alloc: Global) -> Result<Clusters, Memory>
         ensures { IfOk result (λ clusters. clusters ≡ self.now) }
     {

@@ -54,8 +54,10 @@ fn step(alloc: Global, c: &Covered, tree: Tree, item: &Move) -> Result<Moved, Me
 
 /// Makes the moves in order on `tree`, a derivation of `g`. `Done` comes if and only if each move
 /// has a result that is a derivation of `g`, with the last tree. `Stuck` names the first failing
-/// move if it has no result, and `Refused` if its result is not a derivation, with what
-/// `check` answers of it. After `Memory` the tree is given up.
+/// move if it has no result, and `Refused` if its result is not a derivation, with what `check`
+/// returns for it. Costs what `Covered::of` costs, and for each move what one cut costs in `check`,
+/// or the whole of `check` for a move that is refused or exchanges no two blocks. The only error is
+/// `Memory`; the tree is then dropped.
 pub fn replay(alloc: Global, g: &MultiGraph, tree: Tree, moves: &Moves) -> Result<Replayed, Memory>
     requires derivation { IsDerivation g.now (shape_of tree) }
     requires few { length moves.now < 2 ^ 32 - 1 }
@@ -65,7 +67,8 @@ pub fn replay(alloc: Global, g: &MultiGraph, tree: Tree, moves: &Moves) -> Resul
     replay_covered(alloc, &covered, tree, moves)
 }
 
-/// The answer of `replay` for a covered graph, from what is known of it.
+/// What `replay` returns for a covered graph, from what is known of it. Costs what `replay` costs,
+/// less `Covered::of`; the only error is `Memory`.
 pub fn replay_covered(
     alloc: Global,
     c: &Covered,

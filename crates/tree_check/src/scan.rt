@@ -16,7 +16,9 @@ use tree_core::{Place, Tally, Tree};
 /// Whether `tree`, whose shores lie below the order of `g`, is a derivation of `g`. `NotCovered`
 /// comes if and only if `g` is not matching covered, with the first reason; `Accepted` if and only
 /// if it is and the tree is a derivation of it; else `Refused` names the first node in preorder
-/// that breaks a rule, and the first rule that it breaks.
+/// that breaks a rule, and the first rule that it breaks. Takes O(n m (n^3 + m)) steps on words at
+/// most: at each of fewer than n nodes one test as by `is_tight`, or the search for a first cut.
+/// The only error is `Memory`.
 pub fn check(alloc: Global, g: &MultiGraph, tree: &Tree) -> Result<Judgement, Memory>
     requires { Fits g.now.order (shape_of tree.now) }
     ensures { IfOk result (IsJudgement g.now (shape_of tree.now)) }
@@ -27,7 +29,8 @@ pub fn check(alloc: Global, g: &MultiGraph, tree: &Tree) -> Result<Judgement, Me
     }
 }
 
-/// The answer of `check` for a covered graph, from what is known of it.
+/// What `check` returns for a covered graph, from what is known of it. Costs what `check` costs,
+/// less `Covered::of`; the only error is `Memory`.
 pub fn check_covered(alloc: Global, c: &Covered, tree: &Tree) -> Result<Judgement, Memory>
     requires { Fits c.now.order (shape_of tree.now) }
     ensures { IfOk result (IsJudgement c.now (shape_of tree.now)) }
@@ -38,8 +41,9 @@ pub fn check_covered(alloc: Global, c: &Covered, tree: &Tree) -> Result<Judgemen
     }
 }
 
-/// Judges a tree of a covered graph and counts its leaves: each is told to be a brick or a brace
-/// by what its judgement finds of its quotient.
+/// Judges a tree of a covered graph and counts its leaves: each is told to be a brick or a brace by
+/// what its judgement finds of its quotient. Costs what `check_covered` costs; the only error is
+/// `Memory`.
 pub fn scan_covered(alloc: Global, c: &Covered, tree: &Tree) -> Result<Scanned, Memory>
     requires { Fits c.now.order (shape_of tree.now) }
     ensures { IfOk result (IsScanResult c.now (shape_of tree.now)) }
@@ -49,7 +53,8 @@ pub fn scan_covered(alloc: Global, c: &Covered, tree: &Tree) -> Result<Scanned, 
 }
 
 /// What `scan_covered` returns of a tree of a covered graph. What is known of a leaf is not sought
-/// again: that it is a brick or a brace, and which. What is found is known from now on.
+/// again: that it is a brick or a brace, and which. What is found is known from now on. Elsewhere
+/// it costs what `check_covered` costs; the only error is `Memory`.
 pub fn scan_known(alloc: Global, known: &mut KnownPlaces, tree: &Tree) -> Result<Scanned, Memory>
     requires { Fits known.old.order (shape_of tree.now) }
     ensures scanned { IfOk result (IsScanResult known.old (shape_of tree.now)) }

@@ -36,6 +36,8 @@ impl<'g> Model for KnownPlace<'g> {
 
 impl<'g> KnownPlace<'g> {
     /// A place, with what is known of the quotient there. At single vertices nothing is sought.
+    /// Elsewhere the quotient is made, in O(n^2 + m) time, and its facts are found, at the cost of
+    /// `Covered::of`; the only error is `Memory`.
     pub fn of(alloc: Global, place: Place<'g>) -> Result<KnownPlace<'g>, Memory>
         ensures { IfOk result (λ p. p ≡ place.entry) }
     {
@@ -50,7 +52,8 @@ impl<'g> KnownPlace<'g> {
         })
     }
 
-    /// The place at the root: the single vertices of a covered graph. Nothing is sought.
+    /// The place at the root: the single vertices of a covered graph. Nothing is sought. Takes O(n)
+    /// time; the only error is `Memory`.
     pub fn root(alloc: Global, c: &'g Covered<'g>) -> Result<KnownPlace<'g>, Memory>
         ensures graph { IfOk result (λ p. p.graph ≡ c.now) }
         ensures blocks { IfOk result (λ p. p.blocks ≡ singles c.now.order) }
@@ -60,7 +63,8 @@ impl<'g> KnownPlace<'g> {
         Ok(found)
     }
 
-    /// The place below a cut where the shore is kept: its complement becomes one block.
+    /// The place below a cut where the shore is kept: its complement becomes one block. Costs what
+    /// `KnownPlace::of` costs; the only error is `Memory`.
     pub fn kept(&self, alloc: Global, shore: VSet) -> Result<KnownPlace<'g>, Memory>
         requires { IsCutAt self.now.graph self.now.blocks shore }
         ensures graph { IfOk result (λ p. p.graph ≡ self.now.graph) }
@@ -75,7 +79,8 @@ impl<'g> KnownPlace<'g> {
         Ok(found)
     }
 
-    /// The place below a cut where the shore is merged: it becomes one block.
+    /// The place below a cut where the shore is merged: it becomes one block. Costs what
+    /// `KnownPlace::of` costs; the only error is `Memory`.
     pub fn merged(&self, alloc: Global, shore: VSet) -> Result<KnownPlace<'g>, Memory>
         requires { IsCutAt self.now.graph self.now.blocks shore }
         ensures graph { IfOk result (λ p. p.graph ≡ self.now.graph) }
@@ -129,7 +134,8 @@ impl<'g> KnownPlace<'g> {
         }
     }
 
-    /// The quotient graph, which is made only at single vertices.
+    /// The quotient graph, which is made only at single vertices. There it takes O(n^2 + m) time,
+    /// elsewhere constant time; the only error is `Memory`.
     pub fn quotient(&self, alloc: Global) -> Result<Lent<'_>, Memory>
         ensures { IfOk result (λ q. graph_in q ≡ quotient self.now.graph self.now.blocks) }
     {

@@ -8,7 +8,8 @@ use crate::known_place::KnownPlace;
 use crate::tallies::LeafKind;
 use std::alloc::{AllocError as Memory, Global};
 
-/// The kinds of the leaves at these places of a graph, in order.
+/// The kinds of the leaves at these places of a graph, in order. Takes O(k) time for k leaves; the
+/// only error is `Memory`.
 pub fn kinds_at(alloc: Global, leaves: &[KnownPlace]) -> Result<Vec<LeafKind>, Memory>
     ensures { (g : Graph) (ps : List (List (List ℕ))) → leaves.now ≡ map (place_of g) ps →
         IfOk result (λ kinds. AreLeafKinds g ps kinds.items) }

@@ -30,7 +30,8 @@ pub enum Move {
 }
 
 impl Move {
-    /// The move one step further down.
+    /// The move one step further down. Takes O(d) time for a path of d steps; the only error is
+    /// `Memory`.
     pub fn below(&self, alloc: Global, side: Side) -> Result<Move, Memory>
         ensures { IfOk result (λ m. move_of m ≡ below side (move_of self.now)) }
     {
@@ -52,7 +53,8 @@ impl Move {
 pub struct Stuck;
 
 /// What the move makes of the tree over 1 to `n`, as `rotate` and `switch` do. `Stuck` comes
-/// exactly when the move has no result and hands back the same tree. Takes no memory.
+/// exactly when the move has no result and hands back the same tree. Takes no memory, and O(c)
+/// steps on words for a tree of c cuts.
 pub fn apply(tree: Tree, n: u32, m: &Move) -> Result<Tree, (Tree, Stuck)>
     requires { Fits n (shape_of tree) }
     ensures ok { IfOk result

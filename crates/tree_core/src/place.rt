@@ -35,7 +35,7 @@ impl<'g> Model for Place<'g> {
 
 impl<'g> Place<'g> {
     /// The place at the root: the single vertices of a covered graph. The quotient at it is the
-    /// graph itself up to parallel edges.
+    /// graph itself up to parallel edges. Takes O(n) time; the only error is `Memory`.
     pub fn root(alloc: Global, c: &'g Covered<'g>) -> Result<Place<'g>, Memory>
         ensures graph { IfOk result (λ p. p.graph ≡ c.now) }
         ensures blocks { IfOk result (λ p. p.blocks ≡ singles c.now.order) }
@@ -46,7 +46,8 @@ impl<'g> Place<'g> {
     }
 
     /// The place below a cut where the shore is kept: its complement becomes one block. The
-    /// quotient at it is matching covered again.
+    /// quotient at it is matching covered again. Takes O(n) steps on words; the only error is
+    /// `Memory`.
     pub fn kept(&self, alloc: Global, shore: VSet) -> Result<Place<'g>, Memory>
         requires { IsCutAt self.now.graph self.now.blocks shore }
         ensures graph { IfOk result (λ p. p.graph ≡ self.now.graph) }
@@ -65,8 +66,8 @@ impl<'g> Place<'g> {
         })
     }
 
-    /// The place below a cut where the shore is merged: it becomes one block. The quotient at it
-    /// is matching covered again.
+    /// The place below a cut where the shore is merged: it becomes one block. The quotient at it is
+    /// matching covered again. Takes O(n) steps on words; the only error is `Memory`.
     pub fn merged(&self, alloc: Global, shore: VSet) -> Result<Place<'g>, Memory>
         requires { IsCutAt self.now.graph self.now.blocks shore }
         ensures graph { IfOk result (λ p. p.graph ≡ self.now.graph) }
@@ -84,7 +85,7 @@ impl<'g> Place<'g> {
         })
     }
 
-    /// A copy.
+    /// A copy. Takes O(n) time; the only error is `Memory`.
     pub fn copy(&self, alloc: Global) -> Result<Place<'g>, Memory>
         ensures { IfOk result (λ p. p ≡ self.now) }
     {

@@ -190,8 +190,9 @@ pub(crate) fn switch_here(tree: Tree, n: u32, u: VSet, v: VSet) -> Result<Tree, 
 }
 
 /// Exchanges `u`, a part of the shore at the end of the path, and `v`, a part of its complement.
-/// `Stuck` comes exactly when there is not a result: the path leads to no cut, or one of the two
-/// is not a nonempty proper subset there. Then the same tree is handed back. Takes no memory.
+/// `Stuck` comes exactly when there is no result: the path leads to no cut, or one of the two is
+/// not a nonempty proper subset there. Then the same tree is handed back. Takes no memory, and O(c)
+/// steps on words for a tree of c cuts.
 pub fn switch(tree: Tree, n: u32, path: &Path, u: VSet, v: VSet) -> Result<Tree, (Tree, Stuck)>
     requires { Fits n (shape_of tree) }
     ensures ok { IfOk result

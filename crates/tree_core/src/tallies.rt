@@ -29,7 +29,7 @@ pub struct Tally {
 }
 
 /// The kind of a leaf with this quotient: a brace exactly when the quotient is bipartite, and a
-/// brick otherwise.
+/// brick otherwise. Takes O(n + m) time; the only error is `Memory`.
 pub fn leaf_kind_of(alloc: Global, q: &MultiGraph) -> Result<LeafKind, Memory>
     ensures { IfOk result (IsKindOf q.now) }
 {
@@ -93,7 +93,7 @@ fn count_braces(kinds: &[LeafKind]) -> usize
         .count()
 }
 
-/// The numbers of these kinds. Takes no memory.
+/// The numbers of these kinds. Takes no memory, and O(k) time for k leaves.
 pub fn tallied(kinds: &[LeafKind]) -> Tally
     requires { length kinds.now < 2 ^ 32 }
     ensures { result ≡ tally_of kinds.now }
@@ -105,8 +105,9 @@ pub fn tallied(kinds: &[LeafKind]) -> Tally
     }
 }
 
-/// Counts the leaves at these partitions of the vertices of `g`: a leaf is a brace exactly when
-/// its quotient is bipartite, and a brick otherwise.
+/// Counts the leaves at these partitions of the vertices of `g`: a leaf is a brace exactly when its
+/// quotient is bipartite, and a brick otherwise. Takes O(n^2 + m) time for each leaf; the only
+/// error is `Memory`.
 pub fn count_leaves(alloc: Global, g: &MultiGraph, leaves: &Partitions) -> Result<Tally, Memory>
     requires order { All (λ p. p.order ≡ g.now.order) leaves.now }
     requires few { length leaves.now < 2 ^ 32 }

@@ -75,7 +75,7 @@ pub fn depth(tree: &Tree) -> usize
     }
 }
 
-/// An equal tree.
+/// An equal tree. Takes O(c) time for c cuts; the only error is `Memory`.
 pub fn copy(alloc: Global, tree: &Tree) -> Result<Tree, Memory>
     ensures { IfOk result (λ other. shape_of other ≡ shape_of tree.now) }
 {

@@ -104,7 +104,8 @@ impl LineFormat for PickFormat {
 }
 
 /// Reads a list of picks: the numbers that the bytes stand for, or the first line outside the
-/// format with the kind of its error. Memory may run out at any time.
+/// format with the kind of its error. The errors are `TextFault::At`, with this line and kind, and
+/// `TextFault::Memory`, which may come at any time. Takes O(b) time for b bytes.
 pub fn read_picks(alloc: Global, bytes: &[u8]) -> Result<Numbers, TextFault>
     requires { length bytes.now < 2 ^ 32 - 1 }
     ensures value { IfOk result (λ picks. Stands pick_format bytes.now picks) }

@@ -7,7 +7,7 @@ ghost use Rattle.tree_text.specs.Common.{is_rising};
 
 use graph_core::vset_core::{MOST_VERTICES, VSet};
 
-/// Whether each number is below the next.
+/// Whether each number is below the next. Takes O(k) time for k numbers.
 pub fn rise(vertices: &[u32]) -> bool
     ensures { result ≡ is_rising vertices.now }
 {
@@ -26,7 +26,7 @@ pub fn rise(vertices: &[u32]) -> bool
     true
 }
 
-/// Whether `n` is among the numbers.
+/// Whether `n` is among the numbers. Takes O(k) time for k numbers.
 pub fn holds(vertices: &[u32], n: u32) -> bool
     ensures { result ≡ mem vertices.now n }
 {
@@ -40,7 +40,7 @@ pub fn holds(vertices: &[u32], n: u32) -> bool
     false
 }
 
-/// The set of the numbers, which are increasing.
+/// The set of the numbers, which are increasing. Takes O(k) time for k numbers.
 pub fn shore_of(vertices: &[u32]) -> VSet
     requires { IsRisingIn MOST_VERTICES vertices.now }
     ensures { result ≡ vertices.now }

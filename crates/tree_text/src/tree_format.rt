@@ -168,7 +168,8 @@ impl LineFormat for TreeFormat {
 
 /// Reads a tree of cuts over 1 to `n`: the tree that the bytes stand for, or the first line outside
 /// the format with the kind of its error. The tree fits `n`, its shores are not empty, and it has
-/// at most 127 nodes. Memory may run out at any time.
+/// at most 127 nodes. The errors are `TextFault::At`, with this line and kind, and
+/// `TextFault::Memory`, which may come at any time. Takes O(b) time for b bytes.
 pub fn read_tree(alloc: Global, bytes: &[u8], n: u32) -> Result<Tree, TextFault>
     requires order { n ≤ MOST_VERTICES }
     requires length { length bytes.now < 2 ^ 32 - 1 }

@@ -50,7 +50,8 @@ fn push_nodes(text: &mut String, tree: &Tree) -> Result<(), Memory>
 /// for each node in preorder, `leaf` or `cut` with the vertices of the shore; after a cut come
 /// first the nodes of its `kept` tree.
 ///
-/// Reading the text gives the same tree, and nothing else.
+/// Reading the text gives the same tree, and nothing else. Takes O(b) time for b bytes written; the
+/// only error is `Memory`.
 pub fn write_tree(alloc: Global, tree: &Tree, n: u32) -> Result<Vec<u8>, Memory>
     requires order { n ≤ 999999999 }
     requires fits { Fits n (shape_of tree.now) }

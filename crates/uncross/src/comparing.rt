@@ -106,6 +106,7 @@ pub fn compare_at(alloc: Global, p: &Place, first: Tree, second: &Tree) -> Resul
 /// The moves that turn the first derivation of a covered graph into the second, in order and with
 /// paths from the root of the whole tree. Each Switch among them is proper, and each tree in
 /// between is a derivation of the graph. There are at most 5 c * c moves for a tree of c cuts.
+/// Takes O(n^4) steps on words at most; the only error is `Memory`.
 pub fn moves_between_covered(
     alloc: Global,
     c: &Covered,
@@ -143,8 +144,8 @@ pub struct Pairing {
 /// Compares two derivations of a graph: pairs each leaf of the first with one of the second, each
 /// partner being the same leaf by names of blocks (Lovász 1987), and returns moves that turn the
 /// first tree into the second. The maps are those of the moves, each tree in between is a
-/// derivation of the graph, and there are at most 5 c * c moves for a first tree of c cuts. The
-/// only error is `Memory`.
+/// derivation of the graph, and there are at most 5 c * c moves for a first tree of c cuts. Takes
+/// O(n^4 + m) steps on words at most; the only error is `Memory`.
 pub fn compare(
     alloc: Global,
     g: &MultiGraph,
@@ -168,7 +169,8 @@ pub fn compare(
     compare_covered(alloc, &covered, first, second)
 }
 
-/// What `compare` returns, of a covered graph.
+/// What `compare` returns, of a covered graph. Takes O(n^4) steps on words at most; the only error
+/// is `Memory`.
 pub fn compare_covered(
     alloc: Global,
     c: &Covered,

@@ -168,8 +168,8 @@ fn bring_up(alloc: Global, g: &MultiGraph, tree: Tree, shore: VSet) -> Result<Tu
 
 /// Brings a canonical nontrivial tight shore to the root of a derivation of a graph by moves,
 /// through derivations, and pairs each leaf of the tree with one of the new tree by the maps of
-/// these moves. There are at most 5 c moves for a tree of c cuts. The only error is `Memory`; the
-/// tree is then dropped.
+/// these moves. There are at most 5 c moves for a tree of c cuts. Takes O(n^4 + m) steps on words
+/// at most; the only error is `Memory`, and the tree is then dropped.
 pub fn expose(alloc: Global, g: &MultiGraph, tree: Tree, shore: VSet) -> Result<Exposed, Memory>
     requires derives { IsDerivation g.now (shape_of tree) }
     requires shore { IsCutAt g.now (singles g.now.order) shore }
