@@ -12,6 +12,17 @@ use std::alloc::{AllocError as Memory, Global};
 /// The edges that lie in perfect matchings, in increasing order. A graph without a perfect matching
 /// has none. Takes one maximum matching, at most n searches and O(m) further steps, O(n^4 + m)
 /// steps on words at most; the only error is `Memory`.
+///
+/// For the path of four vertices:
+///
+/// ```
+/// let mut path = MultiGraph::new(alloc, 4)?;
+/// for v in 1..4 {
+///     path.add_edge(v, v + 1)?;
+/// }
+/// let edges = allowed(alloc, &path)?;
+/// assert!(rt; edges.as_slice() == [1, 3].as_slice());
+/// ```
 pub fn allowed(alloc: Global, g: &MultiGraph) -> Result<Numbers, Memory>
     ensures { IfOk result (λ edges. Lists (size g.now) edges (Allowed g.now)) }
 {

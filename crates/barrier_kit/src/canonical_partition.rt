@@ -12,6 +12,20 @@ use std::alloc::{AllocError as Memory, Global};
 /// are in one class if they are equal or G - u - v has no perfect matching (Kotzig 1959; Lovász and
 /// Plummer, "Matching Theory", chapter 5). Takes one maximum matching and at most n searches, O(n^4
 /// + m) steps on words at most; the only error is `Memory`.
+///
+/// Here `hexagon` makes the cycle of the vertices 1 to 6:
+///
+/// ```
+/// let graph = hexagon(alloc)?;
+/// let Ok(covered) = Covered::of(alloc, &graph)? else {
+///     return Err("not matching covered".into());
+/// };
+/// covered.keeps_covered();
+/// let list = classes(alloc, &graph)?;
+/// let odd = VSet::one(1).with(3).with(5);
+/// let even = VSet::one(2).with(4).with(6);
+/// assert!(rt; list.as_slice() == [odd, even].as_slice());
+/// ```
 pub fn classes(alloc: Global, g: &MultiGraph) -> Result<SetList, Memory>
     requires { IsCovered g.now }
     ensures { IfOk result (λ list. list ≡ classes g.now) }

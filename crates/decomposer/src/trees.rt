@@ -26,6 +26,19 @@ pub enum Refused {
 /// only if `g` is not matching covered, with the first reason; the other error is `Memory`. At each
 /// of fewer than n nodes it costs what `KnownPlace::of` and `candidates` cost there, or
 /// `first_candidate` for an order that takes the first.
+///
+/// Here `hexagon` makes the cycle of the vertices 1 to 6:
+///
+/// ```
+/// let graph = hexagon(alloc)?;
+/// let Ok(tree) = decompose(alloc, &graph, &NamedOrder::First) else {
+///     return Err("not matching covered, or out of memory".into());
+/// };
+/// let Tree::Cut { shore, .. } = &tree else {
+///     return Err("a cycle of six vertices is not a brace".into());
+/// };
+/// assert!(rt; *shore == VSet::one(2).with(3).with(4));
+/// ```
 pub fn decompose<O: Order>(alloc: Global, g: &MultiGraph, order: &O) -> Result<Tree, Refused>
     ensures derivation { IfOk result (λ tree. IsDerivation g.now (shape_of tree)) }
     ensures picked { IfOk result (λ tree. IsPicked (O.picks order.now) g.now (shape_of tree)) }

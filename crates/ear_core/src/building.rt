@@ -37,6 +37,18 @@ use two_ears::match_core::Matching;
 /// augmentations, O(n^3 + m) steps on words; one where no ear does takes one maximum matching more,
 /// and so does any two of at most n/2 ears that are tried together. The only error is `Memory`.
 /// Source: Lovász and Plummer, "Matching Theory", section 5.4.
+///
+/// Here `hexagon` makes the cycle of the vertices 1 to 6:
+///
+/// ```
+/// let graph = hexagon(alloc)?;
+/// let Ok(covered) = Covered::of(alloc, &graph)? else {
+///     return Err("not matching covered".into());
+/// };
+/// covered.keeps_covered();
+/// let list = build_ears(alloc, &graph)?;
+/// assert!(rt; list.start == 1 && list.steps.len() == 1);
+/// ```
 pub fn build_ears(alloc: Global, g: &MultiGraph) -> Result<EarList, Memory>
     requires { IsCovered g.now }
     ensures list { IfOk result (λ list. IsEarList g.now (ears_of list)) }

@@ -20,6 +20,18 @@ use two_ears::graph_facts::Covered;
 /// (n^4 + m)) steps on words at most: a maximum matching and n searches for each step that adds two
 /// ears or joins no two partners. The only error is `Memory`. The ear lists of a matching covered
 /// graph are those of Lovász and Plummer.
+///
+/// Here `hexagon` makes the cycle of the vertices 1 to 6:
+///
+/// ```
+/// let graph = hexagon(alloc)?;
+/// let Ok(covered) = Covered::of(alloc, &graph)? else {
+///     return Err("not matching covered".into());
+/// };
+/// covered.keeps_covered();
+/// let list = build_ears(alloc, &graph)?;
+/// assert!(rt; matches!(check_ears(alloc, &graph, &list)?, EarJudgement::Accepted));
+/// ```
 pub fn check_ears(alloc: Global, g: &MultiGraph, list: &EarList) -> Result<EarJudgement, Memory>
     requires { FitsEars g.now.order (size g.now) (ears_of list.now) }
     ensures accepted { IfOk result (λ j. AcceptsList g.now (ears_of list.now) (refusal_of j)) }

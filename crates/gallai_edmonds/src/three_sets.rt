@@ -12,6 +12,17 @@ use std::alloc::{AllocError as Memory, Global};
 /// vertices adjacent to D; and C, the rest (Gallai 1964; Edmonds 1965; Lovász and Plummer,
 /// "Matching Theory", chapter 3). Costs what `Facts::of` costs, O(n^4 + m) steps on words at most;
 /// the only error is `Memory`.
+///
+/// For the path of three vertices:
+///
+/// ```
+/// let mut path = MultiGraph::new(alloc, 3)?;
+/// path.add_edge(1, 2)?;
+/// path.add_edge(2, 3)?;
+/// let found = sets(alloc, &path)?;
+/// assert!(rt; found.d == VSet::one(1).with(3) && found.a == VSet::one(2));
+/// assert!(rt; found.c == VSet::empty());
+/// ```
 pub fn sets(alloc: Global, g: &MultiGraph) -> Result<ThreeSets, Memory>
     ensures d { IfOk result (λ s. Lists g.now.order s.d (InD g.now)) }
     ensures a { IfOk result (λ s. Lists g.now.order s.a (InA g.now)) }

@@ -70,6 +70,16 @@ impl<'g> Covered<'g> {
     /// Takes one maximum matching and n searches, O(n^4 + m) steps on words at most (see `frame` of
     /// `match_core`); the only error is `Memory`. Source: Lovász and Plummer, "Matching Theory",
     /// chapter 5.
+    ///
+    /// Here `hexagon` makes the cycle of the vertices 1 to 6:
+    ///
+    /// ```
+    /// let graph = hexagon(alloc)?;
+    /// let Ok(covered) = Covered::of(alloc, &graph)? else {
+    ///     return Err("not matching covered".into());
+    /// };
+    /// assert!(rt; covered.matching().len() == 3);
+    /// ```
     pub fn of(alloc: Global, g: &'g MultiGraph) -> Result<Result<Covered<'g>, Reason>, Memory>
         ensures covered { IfOk result (λ r. IfOk r (λ c. c ≡ g.now)) }
         ensures reason { IfOk result

@@ -38,6 +38,15 @@ impl<'g> Facts<'g> {
     /// The facts of `g`: one search for its components and its side, and one for each other. Takes
     /// one maximum matching and at most n searches, O(n^4 + m) steps on words at most (see `frame`
     /// of `match_core`); the only error is `Memory`.
+    ///
+    /// Here `hexagon` makes the cycle of the vertices 1 to 6:
+    ///
+    /// ```
+    /// let graph = hexagon(alloc)?;
+    /// let facts = Facts::of(alloc, &graph)?;
+    /// assert!(rt; facts.components() == 1 && facts.is_bipartite());
+    /// assert!(rt; facts.verdict() == Verdict::Covered);
+    /// ```
     pub fn of(alloc: Global, g: &'g MultiGraph) -> Result<Facts<'g>, Memory>
         ensures { IfOk result (λ facts. facts ≡ g.now) }
     {

@@ -197,6 +197,18 @@ impl LineFormat for EitherVersion {
 /// names of its vertices in version 2 and none in version 1, or the first line outside the format
 /// with the kind of its error. The errors are `TextFault::At`, with this line and kind, and
 /// `TextFault::Memory`, which may come at any time. Takes O(b) time for b bytes.
+///
+/// For a graph of two vertices and an edge:
+///
+/// ```
+/// let text = "p mcg 2 1\ne 1 2\n".as_bytes();
+/// assert!(rt; text.len() <= 1_000_000);
+/// let Ok(named) = read_any(alloc, text) else {
+///     return Err("outside the format, or out of memory".into());
+/// };
+/// assert!(rt; named.graph.order() == 2 && named.graph.size() == 1);
+/// assert!(rt; named.names.is_none());
+/// ```
 pub fn read_any(alloc: Global, bytes: &[u8]) -> Result<Named, TextFault>
     requires { length bytes.now < 2 ^ 32 - 1 }
     ensures value { IfOk result (λ named. Stands either_version bytes.now (named_graph named)) }

@@ -37,6 +37,16 @@ fn push_edges(text: &mut String, g: &MultiGraph) -> Result<(), Memory>
 ///
 /// Reading the text gives the same graph, and nothing else. Takes O(n + m) time; the only error is
 /// `Memory`.
+///
+/// For a graph of two vertices and an edge:
+///
+/// ```
+/// let mut graph = MultiGraph::new(alloc, 2)?;
+/// graph.add_edge(1, 2)?;
+/// assert!(rt; graph.order() <= 64 && graph.size() <= 512);
+/// let text = write_graph(alloc, &graph)?;
+/// assert!(rt; text.as_slice() == "p mcg 2 1\ne 1 2\n".as_bytes());
+/// ```
 pub fn write_graph(alloc: Global, g: &MultiGraph) -> Result<Vec<u8>, Memory>
     requires vertices { g.now.order ≤ most_vertices }
     requires edges { size g.now ≤ most_edges }

@@ -16,6 +16,18 @@ use tight_cuts::separation_kit::{FirstPairs, brick_law};
 /// cut, with the shore that `find_any` returns; otherwise a brace if it is bipartite, and a brick
 /// if not. A graph that is called a brick has at least four vertices, is bicritical and has no cut
 /// pair. Costs what `find_any` costs; the only error is `Memory`.
+///
+/// Here `hexagon` makes the cycle of the vertices 1 to 6:
+///
+/// ```
+/// let graph = hexagon(alloc)?;
+/// let Ok(covered) = Covered::of(alloc, &graph)? else {
+///     return Err("not matching covered".into());
+/// };
+/// covered.keeps_covered();
+/// let cut = VSet::one(2).with(3).with(4);
+/// assert!(rt; kind(alloc, &graph)? == Kind::Composite { cut });
+/// ```
 pub fn kind(alloc: Global, g: &MultiGraph) -> Result<Kind, Memory>
     requires { IsCovered g.now }
     ensures kind { IfOk result (IsKind g.now) }

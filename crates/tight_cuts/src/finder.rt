@@ -163,6 +163,21 @@ fn listed_after(
 /// or a separation they take at most O(m (n + m)) minimum cuts, each tested as by `is_tight`;
 /// mostly a few perfect matchings show that an edge gives nothing. The rest costs what
 /// `Covered::of` and `separation_cuts` cost. The only error is `Memory`.
+///
+/// Here `hexagon` makes the cycle of the vertices 1 to 6:
+///
+/// ```
+/// let graph = hexagon(alloc)?;
+/// let Ok(covered) = Covered::of(alloc, &graph)? else {
+///     return Err("not matching covered".into());
+/// };
+/// covered.keeps_covered();
+/// let list = candidates(alloc, &graph)?;
+/// assert!(rt; list.len() == 3);
+/// for candidate in list.as_slice() {
+///     assert!(rt; candidate.inside == 3 && candidate.outside == 3);
+/// }
+/// ```
 pub fn candidates(alloc: Global, g: &MultiGraph) -> Result<CandidateList, Memory>
     requires { IsCovered g.now }
     ensures list { IfOk result (λ list. list ≡ candidates g.now) }

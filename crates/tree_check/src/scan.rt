@@ -19,6 +19,19 @@ use tree_core::{Place, Tally, Tree};
 /// that breaks a rule, and the first rule that it breaks. Takes O(n m (n^3 + m)) steps on words at
 /// most: at each of fewer than n nodes one test as by `is_tight`, or the search for a first cut.
 /// The only error is `Memory`.
+///
+/// Here `hexagon` makes the cycle of the vertices 1 to 6:
+///
+/// ```
+/// let graph = hexagon(alloc)?;
+/// let tree = Tree::Cut {
+///     shore: VSet::one(2).with(3).with(4),
+///     kept: Box::new(alloc, Tree::Leaf)?,
+///     merged: Box::new(alloc, Tree::Leaf)?,
+/// };
+/// assert!(rt; fits(&tree, graph.order()));
+/// assert!(rt; matches!(check(alloc, &graph, &tree)?, Judgement::Accepted));
+/// ```
 pub fn check(alloc: Global, g: &MultiGraph, tree: &Tree) -> Result<Judgement, Memory>
     requires { Fits g.now.order (shape_of tree.now) }
     ensures { IfOk result (IsJudgement g.now (shape_of tree.now)) }

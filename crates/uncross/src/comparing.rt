@@ -146,6 +146,20 @@ pub struct Pairing {
 /// first tree into the second. The maps are those of the moves, each tree in between is a
 /// derivation of the graph, and there are at most 5 c * c moves for a first tree of c cuts. Takes
 /// O(n^4 + m) steps on words at most; the only error is `Memory`.
+///
+/// Here `hexagon` makes the cycle of the vertices 1 to 6:
+///
+/// ```
+/// let graph = hexagon(alloc)?;
+/// let Ok(first) = decompose(alloc, &graph, &NamedOrder::First) else {
+///     return Err("not matching covered, or out of memory".into());
+/// };
+/// let Ok(last) = decompose(alloc, &graph, &NamedOrder::Last) else {
+///     return Err("not matching covered, or out of memory".into());
+/// };
+/// let pairing = compare(alloc, &graph, &first, &last)?;
+/// assert!(rt; pairing.maps.len() == 2 && pairing.moves.len() == 1);
+/// ```
 pub fn compare(
     alloc: Global,
     g: &MultiGraph,
