@@ -67,9 +67,9 @@ fn parts_of(alloc: Global, g: &MultiGraph) -> Result<Parts, Memory>
 impl<'g> Covered<'g> {
     /// The graph as a covered one, or the first reason why it is not matching covered, in the order
     /// `Small`, `Parted`, `Unmatched`, `Unallowed`. Nothing is computed after the first reason.
-    /// Takes one maximum matching and n searches, O(n^4 + m) steps on words at most (see `frame` of
-    /// `match_core`); the only error is `Memory`. Source: Lovász and Plummer, "Matching Theory",
-    /// chapter 5.
+    /// Takes one maximum matching and at most n searches, O(n^4 + m) steps on words at most (see
+    /// `frame` of `match_core`); the only error is `Memory`. Source: Lovász and Plummer, "Matching
+    /// Theory", chapter 5.
     ///
     /// Here `hexagon` makes the cycle of the vertices 1 to 6:
     ///
