@@ -1,5 +1,5 @@
 -- The lines of the usage that are a command's, and the page of each command.
--- Stated by: command_table, front_words.
+-- Stated by: command_table, front_words. Used by: mcg6_front_top.
 use Rattle.std.specs.Prelude.{ℕ, List, [], ◌∷◌, ◌++◌, nat_eq, Bool, false, codes, if◌then◌else◌, Option, None, Some, bytes_eq}
 use Rattle.std.specs.List.{starts_with}
 use Rattle.command_table.specs.Rows.{Row}

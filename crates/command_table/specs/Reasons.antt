@@ -1,5 +1,5 @@
 -- Why words match no row of a table.
--- Stated by: command_table, front_words.
+-- Stated by: command_table, front_words. Used by: mcg6_front_top.
 use Rattle.std.specs.Prelude.{ℕ, List, [], ◌∷◌, if◌then◌else◌, Option, Some, None, bytes_eq}
 use Rattle.command_table.specs.Rows.{Word, fits_word, is_other, Row}
 use Rattle.command_table.specs.RowsSeen.{word_seen}

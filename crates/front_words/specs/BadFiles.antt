@@ -1,5 +1,5 @@
 -- A file that is outside its format, as far as it is known.
--- Stated by: front_words.
+-- Stated by: front_words. Used by: mcg6_front_top.
 use Rattle.std.specs.Prelude.{ℕ, List, option_map, Option}
 use Rattle.line_text.specs.declared.faults.FaultKind.{FaultKind}
 use Rattle.refusals.specs.declared.file_kind.FileKind.{FileKind}

@@ -1,6 +1,6 @@
 -- What is added to the words of a fault: what the file is that begins so, the header that is due,
 -- the limits, what else reads such a file, or what to write instead.
--- Stated by: front_words.
+-- Stated by: front_words. Used by: mcg6_front_top.
 use Rattle.std.specs.Prelude.{ℕ, List, ◌++◌, codes, decimal, Option, None, Some}
 use Rattle.line_text.specs.declared.faults.FaultKind.{FaultKind}
 use Rattle.line_text.specs.declared.faults.FaultKind.TheVariants.{Header, Word, Number, Range, Loop, Limit, Missing, Extra, NotRising, HasGreatest, Unnamed, SameName, BadName, Padding, LongForm}

@@ -1,6 +1,6 @@
 -- What a text is that does not begin as it should: a file of another format, by its first bytes,
 -- and what reads that.
--- Stated by: front_words.
+-- Stated by: front_words. Used by: mcg6_front_top.
 use Rattle.std.specs.Prelude.{ℕ, List, [], ◌∷◌, nat_eq, Bool, codes, if◌then◌else◌, Option, None, Some}
 use Rattle.std.specs.List.{starts_with}
 use Rattle.refusals.specs.declared.file_kind.FileKind.{FileKind}

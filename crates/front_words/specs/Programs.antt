@@ -1,5 +1,5 @@
 -- What is known of each of the two programs.
--- Stated by: front_words.
+-- Stated by: front_words. Used by: mcg6_front_top.
 use Rattle.std.specs.Prelude.{ℕ, List, codes, Option}
 use Rattle.command_table.specs.Pages.{list_page_of, page_of}
 use Rattle.command_table.specs.Rows.{Row}

@@ -1,5 +1,5 @@
 -- Why a file could not be read, in words.
--- Stated by: front_words.
+-- Stated by: front_words. Used by: mcg6_front_top.
 use Rattle.std.specs.Prelude.{ℕ, List, codes, Option, None, Some}
 use Rattle.outside.specs.declared.explain.FailureReason.{FailureReason}
 use Rattle.outside.specs.declared.explain.FailureReason.TheVariants.{Absent, Dangling, Folder, NotInFolder, Forbidden, LongName, LinkLoop, Socket, ManyOpen, Other}

@@ -1,6 +1,6 @@
 -- How bytes of the outside are shown in a line: characters that print as they are, and every other
 -- byte by an escape.
--- Stated by: front_words.
+-- Stated by: front_words. Used by: mcg6_front_top.
 use Rattle.std.specs.Prelude.{ℕ, zero, suc, ◌+◌, ◌-◌, ◌/◌, ◌%◌, ◌==◌, ◌||◌, ◌&&◌, not, List, [], ◌∷◌, ◌++◌, Bool, nat_le, nat_lt, slice_index_or, codes, if◌then◌else◌}
 
 -- a byte that is not printable ASCII: one that controls a terminal, or a part of a character

@@ -1,5 +1,5 @@
 -- What is said of a file that could not be read.
--- Stated by: front_words.
+-- Stated by: front_words. Used by: mcg6_front_top.
 use Rattle.std.specs.Prelude.{ℕ, List, [], ◌++◌, codes, if◌then◌else◌, Option, bytes_eq}
 use Rattle.outside.specs.declared.explain.FailureReason.{FailureReason}
 use Rattle.front_words.specs.Reasons.{reason_words}

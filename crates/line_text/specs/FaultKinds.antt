@@ -1,5 +1,5 @@
 -- The numbers of the kinds of errors in a text.
--- Stated by: line_text. Used by: bench_tasks, bench_top.
+-- Stated by: line_text. Used by: front_words, bench_tasks, bench_top, mcg6_front_top.
 use Rattle.std.specs.Prelude.{ℕ}
 use Rattle.line_text.specs.declared.faults.FaultKind.{FaultKind}
 use Rattle.line_text.specs.declared.faults.FaultKind.TheVariants.{Header, Word, Number, Range, Loop, Limit, Missing, Extra, NotRising, HasGreatest, Unnamed, SameName, BadName, Padding, LongForm}

@@ -1,5 +1,5 @@
 -- The lines of a list.
--- Stated by: mcg6_reader, mcg6_top.
+-- Stated by: mcg6_reader, mcg6_top, mcg6_front_top.
 use Rattle.std.specs.Prelude.{◌≡◌, ℕ, ◌==◌, ◌<◌, ◌⊎◌, not, Bool, if◌then◌else◌, List, [], ◌∷◌, ◌++◌, length, IsTrue}
 use Rattle.std.specs.List.{list_all, onto_first}
 

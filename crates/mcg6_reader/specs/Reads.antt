@@ -1,5 +1,5 @@
 -- What the reads of a source returned, and what the lines of these bytes give.
--- Stated by: mcg6_reader. Used by: mcg6_encoder.
+-- Stated by: mcg6_reader. Used by: mcg6_encoder, mcg6_top.
 use Rattle.std.specs.Prelude.{◌≡◌, ℕ, zero, suc, List, [], ◌++◌, Option}
 use Rattle.outside.specs.Common.{bytes_given}
 use Rattle.line_text.specs.declared.faults.FaultKind.{FaultKind}

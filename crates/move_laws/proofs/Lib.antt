@@ -35,4 +35,3 @@ pub mod ScriptPairs
 pub mod ExchangedNames
 -- Passed on to the crates above: from_NAME is all that the crate NAME has in its folder of this name.
 pub use Rattle.tree_core.proofs.from_contraction as from_contraction
-pub use Rattle.tree_core.proofs as from_tree_core

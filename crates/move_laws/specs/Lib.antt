@@ -8,4 +8,3 @@ pub mod Turning
 pub mod Common
 -- Passed on to the crates above: from_NAME is all that the crate NAME has in its folder of this name.
 pub use Rattle.tree_core.specs.from_contraction as from_contraction
-pub use Rattle.tree_core.specs as from_tree_core

@@ -18,5 +18,4 @@
 pub mod laws;
 
 // Passed on to the crates above.
-pub use tree_core;
 pub use tree_core::{contraction, graph_facts};

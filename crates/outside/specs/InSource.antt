@@ -1,5 +1,5 @@
 -- A file of a runtime, or its standard input, as its users see it.
--- Stated by: outside. Used by: mcg6_encoder.
+-- Stated by: outside, theorems. Used by: mcg6_encoder, mcg6_top, mcg6_front_top.
 use Rattle.std.specs.Prelude.{◌≡◌, ℕ, List, [], ◌∷◌, ◌++◌, Option, Some, None}
 use Rattle.outside.specs.Faults.{MayCount}
 use Rattle.outside.specs.Shelf.{NamedFile}

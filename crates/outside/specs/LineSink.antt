@@ -1,5 +1,5 @@
 -- A stream of lines as its users see it.
--- Stated by: outside, front_top.
+-- Stated by: outside, front_top, mcg6_front_top.
 use Rattle.std.specs.Prelude.{◌≡◌, ◌<◌, ℕ, List, [], ◌++◌, Contains, take}
 use Rattle.outside.specs.Faults.{MayCount}
 

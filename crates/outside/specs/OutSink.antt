@@ -1,5 +1,5 @@
 -- A stream of a runtime as its users see it.
--- Stated by: outside, theorems. Used by: bench_top, front_top.
+-- Stated by: outside, theorems. Used by: bench_top, front_top, mcg6_top, mcg6_front_top.
 use Rattle.std.specs.Prelude.{◌≡◌, ℕ, Bool, List, ◌++◌, take}
 use Rattle.outside.specs.Faults.{MayCount}
 

@@ -1,5 +1,6 @@
 -- What a sink makes known of its bytes, and which writes lead from one sink to another.
--- Stated by: outside. Used by: mcg6_reader, mcg6_encoder, front_words, bench_outcomes, bench_top.
+-- Stated by: outside, theorems.
+-- Used by: mcg6_reader, mcg6_encoder, front_words, bench_outcomes, bench_top.
 use Rattle.std.specs.Prelude.{◌≡◌, ℕ, ◌+◌, ◌<◌, zero, suc, List, ◌++◌, length, drop, Result, Ok, Err, Option, Some, None}
 
 -- the bytes written once a piece is appended, if they are known

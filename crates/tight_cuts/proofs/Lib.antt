@@ -35,4 +35,3 @@ pub mod ApartRows
 -- Passed on to the crates above: from_NAME is all that the crate NAME has in its folder of this name.
 pub use Rattle.barrier_kit.proofs as from_barrier_kit
 pub use Rattle.quick_kinds.proofs.from_separation_kit as from_separation_kit
-pub use Rattle.tree_core.proofs as from_tree_core

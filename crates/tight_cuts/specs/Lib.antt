@@ -10,4 +10,3 @@ pub mod EdgeDigraphs
 pub mod QuietEdges
 pub mod Common
 -- Passed on to the crates above: from_NAME is all that the crate NAME has in its folder of this name.
-pub use Rattle.tree_core.specs as from_tree_core

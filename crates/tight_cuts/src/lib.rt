@@ -44,5 +44,4 @@ pub use clusters::Clusters;
 pub use finder::{candidates, find_any, first_candidate, first_cut};
 pub use quick_kinds::separation_kit;
 pub use tightness::{Tightness, is_tight, tightness_in};
-pub use tree_core;
 pub use tree_core::graph_facts;
