@@ -17,7 +17,6 @@ EXCEPTIONS = {
     "crates/front_words/src/faults.rt": "the same",
     "crates/report_text/mutants/forgets_the_graph6_text.edit": "a mutant of its last line",
     "tests/edge_trials/limits.py": "the limits of graph6",
-    : "an example of help",
     "tools/agreement/recipe.py": "this file",
     "tools/agree_docs": "what this file does",
     "tools/README.md": "the same",
