@@ -16,14 +16,21 @@ Each function takes the graph and a result of the function of `mcg` with the sam
 
 What is free is not compared: any tight cut decomposition passes `decompose`, whatever the order
 of choice was. `python -m mcg.verify GRAPH REPORT [FILES]` checks a report in a file.
+
+Reports of `mcg6` are judged against their lists, line by line: `list_report` and `Judged`, and
+`python -m mcg.verify --list LIST REPORT COMMAND..`. There the order of choice counts too, since all
+candidates are found by their definition.
 """
 from .files import report
+from .lists import Judged, LineFault, list_report
 from .moves import compare, replay
 from .stages import check_ears, ears
 from .structure import Wrong, analyse
 from .trees import check, decompose
 
 __all__ = [
+    "Judged",
+    "LineFault",
     "Wrong",
     "analyse",
     "check",
@@ -31,6 +38,7 @@ __all__ = [
     "compare",
     "decompose",
     "ears",
+    "list_report",
     "replay",
     "report",
 ]
