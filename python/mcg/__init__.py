@@ -18,10 +18,12 @@ variables `MCG` and `MCG6` or else on the PATH, and give their reports in your o
 A graph is a graph of NetworkX or of Sage, a pair (vertices, edges), an iterable of edges, or a
 text in graph6 (see `Graph`), with at most 128 vertices and 2,048 edges.
 
-One graph: `analyse`, `decompose`, `check`, `ears`, `check_ears`, `compare`, `script`, `replay`.
+One graph: `analyse`, `decompose`, `check`, `ears`, `check_ears`, `compare`, `script`, `replay`,
+`matching`, `tight_cuts`.
 Edges of matching covered graphs: `removable`, `b_invariant`, `removable_doubletons`, `thin`.
 Cuts and new graphs: `is_tight`, `contract`, `retract`, `bisubdivide`, `splice`, `is_petersen`.
-Lists of graphs, streamed: `kinds`, `leaves`, `elementary`, `select`.
+Lists of graphs, streamed: `kinds`, `leaves`, `elementary`, `select`, `matchings`, `cuts`, `ears_of`;
+and what is known of each graph of a list in an SQLite file: `census`.
 Each answer has a short `repr`, a text for `print`, and `to_dict` with `from_dict` (see `mcg.dicts`);
 it can be pickled.
 Pictures: the module `draw`, and the method `draw` of `Decomposition`, `Ears` and `Comparison`.
@@ -42,6 +44,7 @@ reports without the programs.
 from . import draw
 from .analysis import Analysis, analyse
 from .bricks import b_invariant, removable, removable_doubletons, thin
+from .censuses import Census, census
 from .comparisons import Comparison, compare, script
 from .contractions import Contraction, Contractions, contract, retract
 from .decompositions import Picks, Refusal, TreeCheck, check, decompose
@@ -61,6 +64,9 @@ from .errors import (
 )
 from .graphs import Graph
 from .list_answers import Kind, ListComponent, ListLeaf
+from .list_cuts import TightCut, cuts, tight_cuts
+from .list_ears import ListEars, ears_of
+from .list_matchings import Matching, matching, matchings
 from .lists import elementary, kinds, leaves, select
 from .moves import Moves, Rotate, Switch
 from .petersen import is_petersen
@@ -78,6 +84,7 @@ __all__ = [
     "BadGraph",
     "BadInput",
     "BadText",
+    "Census",
     "Comparison",
     "Contraction",
     "Contractions",
@@ -91,7 +98,9 @@ __all__ = [
     "Kind",
     "Leaf",
     "ListComponent",
+    "ListEars",
     "ListLeaf",
+    "Matching",
     "Moves",
     "NotADerivation",
     "NotCovered",
@@ -105,6 +114,7 @@ __all__ = [
     "Replay",
     "Rotate",
     "Switch",
+    "TightCut",
     "Tightness",
     "TooLarge",
     "TreeCheck",
@@ -112,18 +122,23 @@ __all__ = [
     "analyse",
     "b_invariant",
     "bisubdivide",
+    "census",
     "check",
     "check_ears",
     "compare",
     "contract",
+    "cuts",
     "decompose",
     "draw",
     "ears",
+    "ears_of",
     "elementary",
     "is_petersen",
     "is_tight",
     "kinds",
     "leaves",
+    "matching",
+    "matchings",
     "removable",
     "removable_doubletons",
     "replay",
@@ -132,5 +147,6 @@ __all__ = [
     "select",
     "splice",
     "thin",
+    "tight_cuts",
     "verify",
 ]

@@ -1,8 +1,13 @@
 """python3 -m mcg page FILE -o page.html: writes a page on a graph.
+python3 -m mcg census LIST -o FILE.sqlite: writes what is known of each graph of a list.
 
 FILE is a graph file, a file with one graph in graph6, - for standard input, or a text in graph6.
-The page is one HTML file with everything in it. Status 0: it is written; 1: it could not be made;
-2: the command line is wrong.
+The page is one HTML file with everything in it.
+
+LIST is a file with graphs in graph6, one on each line, or - for standard input. The census goes on
+where it was if it was interrupted or the list has grown; `mcg.census` says what is in the file.
+
+Status 0: it is written; 1: it could not be made; 2: the command line is wrong; 130: interrupted.
 """
 from __future__ import annotations
 
@@ -16,18 +21,32 @@ from . import Error, Graph
 
 def main(words: Optional[List[str]] = None) -> int:
     """Does what the command line says and returns the exit status."""
-    parser = argparse.ArgumentParser(prog="python3 -m mcg", description="Pages on graphs.")
+    parser = argparse.ArgumentParser(prog="python3 -m mcg", description="Pages on graphs, and censuses of lists.")
     commands = parser.add_subparsers(dest="command", required=True, metavar="COMMAND")
     command = commands.add_parser("page", help="write a page on a graph, one HTML file")
     command.add_argument("file", metavar="FILE", help="a graph file, - or a text in graph6")
     command.add_argument("-o", "--output", metavar="PAGE", help="the page; else standard output")
     command.add_argument("--title", help="what the page is called; else the name of the file")
+    census = commands.add_parser("census", help="write what is known of the graphs of a list, in SQLite")
+    census.add_argument("list", metavar="LIST", help="a file with graphs in graph6, or -")
+    census.add_argument("-o", "--output", metavar="FILE", required=True, help="the SQLite file")
+    census.add_argument("--edges", action="store_true", help="count removable and b-invariant edges")
+    census.add_argument("--processes", type=int, default=1, metavar="N", help="processes of mcg6")
+    census.add_argument("--quiet", action="store_true", help="no lines of progress")
     given = parser.parse_args(words)
     try:
-        write_page(given.file, given.output, given.title)
-    except (Error, ImportError, OSError, UnicodeDecodeError) as why:
-        print(f"python3 -m mcg page: {why}", file=sys.stderr)
+        if given.command == "census":
+            from .census_program import take_census
+
+            take_census(given.list, given.output, given.edges, given.processes, given.quiet)
+        else:
+            write_page(given.file, given.output, given.title)
+    except (Error, ImportError, OSError, UnicodeDecodeError, ValueError) as why:
+        print(f"python3 -m mcg {given.command}: {why}", file=sys.stderr)
         return 1
+    except KeyboardInterrupt:
+        print(f"python3 -m mcg {given.command}: interrupted", file=sys.stderr)
+        return 130
     return 0
 
 

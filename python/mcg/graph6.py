@@ -6,6 +6,8 @@ from typing import Iterable, Iterator, List, Optional, Tuple
 from .errors import FAULTS, LIMIT, BadGraph, TooLarge
 
 HEADER = ">>graph6<<"
+# The header alone, as the first line of a list may be.
+HEADER_LINES = (b">>graph6<<", b">>graph6<<\n", b">>graph6<<\r\n")
 MOST_VERTICES, MOST_EDGES = 128, 2048
 
 

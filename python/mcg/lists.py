@@ -50,7 +50,7 @@ def kinds(
     [1, 2]
     """
     demand_list(graphs, skipped, processes)
-    return _answers(["kinds"], _kind, graphs, skipped, processes, None)
+    return answers(["kinds"], _kind, graphs, skipped, processes, None)
 
 
 def leaves(
@@ -72,7 +72,7 @@ def leaves(
     """
     words = ["leaves", order_word(order)]
     demand_list(graphs, skipped, processes)
-    return _answers(words, _leaf, graphs, skipped, processes, SESSION)
+    return answers(words, _leaf, graphs, skipped, processes, SESSION)
 
 
 def elementary(
@@ -94,7 +94,7 @@ def elementary(
     <component 2, 3 of graph 1: A_>
     """
     demand_list(graphs, skipped, processes)
-    return _answers(["elementary"], _component, graphs, skipped, processes, SESSION)
+    return answers(["elementary"], _component, graphs, skipped, processes, SESSION)
 
 
 def select(
@@ -119,10 +119,10 @@ def select(
     """
     words = ["select", property_word(what)]
     demand_list(graphs, skipped, processes)
-    return _answers(words, _given, graphs, skipped, processes, SESSION)
+    return answers(words, _given, graphs, skipped, processes, SESSION)
 
 
-def _answers(
+def answers(
     words: Sequence[str],
     read: Callable[[bytes, Session], Answer],
     graphs: Iterable[Any],

@@ -32,12 +32,22 @@ RANGE = 4
 
 class Sent(NamedTuple):
     """A graph that was sent: its place among those given, from 0, its line, the graph itself, and
-    its labels, None for a graph in graph6."""
+    the graph with its labels, None for one in graph6."""
 
     number: int
     line: bytes
     given: Any
-    vertices: Optional[Sequence[Label]]
+    labelled: Optional[Graph]
+
+    @property
+    def graph(self) -> Graph:
+        """The graph with its labels; those of a graph in graph6 are 0, 1, .."""
+        return Graph(self.line) if self.labelled is None else self.labelled
+
+    @property
+    def vertices(self) -> Optional[Sequence[Label]]:
+        """Its labels, None for a graph in graph6."""
+        return None if self.labelled is None else self.labelled.vertices
 
 
 class Session:
@@ -66,7 +76,7 @@ class Session:
         for graph in self.graphs:
             number = self.before + self.count
             try:
-                line, vertices = _line(graph)
+                line, labelled = _line(graph)
             except BadInput as fault:
                 made: Type[BadInput] = type(fault)
                 named = made(
@@ -77,9 +87,9 @@ class Session:
                 if self.skipped is None:
                     raise named from None
                 self.faults[self.count + 1] = named
-                line, vertices = b"", None
+                line, labelled = b"", None
             self.count += 1
-            self.waiting.append(Sent(number, line, graph, vertices))
+            self.waiting.append(Sent(number, line, graph, labelled))
             yield line
 
     def rows(self) -> Generator[bytes, None, None]:
@@ -167,13 +177,13 @@ def _text(graph: Any) -> str:
     return graph if isinstance(graph, str) else bytes(graph).decode("latin-1")
 
 
-def _line(graph: Any) -> Tuple[bytes, Optional[Sequence[Label]]]:
-    """The line of a graph, without its end, and its labels. Raises `BadGraph` or `TooLarge` for what
-    has no line."""
+def _line(graph: Any) -> Tuple[bytes, Optional[Graph]]:
+    """The line of a graph, without its end, and the graph if it has labels. Raises `BadGraph` or
+    `TooLarge` for what has no line."""
     if not isinstance(graph, (str, bytes)):
         numbered = Graph(graph)
         demand_size(numbered.order, len({(min(it), max(it)) for it in numbered.ends}))
-        return numbered.graph6().encode("ascii"), numbered.vertices
+        return numbered.graph6().encode("ascii"), numbered
     text = graph6.bare(_text(graph))
     if "\n" in text:
         raise BadGraph(

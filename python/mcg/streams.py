@@ -21,6 +21,9 @@ PIECE, PATIENCE = 8_192, 0.001
 # The last lines that were sent are kept up to so many bytes: more than the pipe and mcg6 hold unread.
 KEPT = 400_000
 
+# The words of mcg6 that write a line for each graph.
+ONE_LINE_EACH = ("kinds", "matching")
+
 
 class Stream:
     """A running `mcg6 WORDS..`: iterating yields the lines that it writes.
@@ -150,7 +153,7 @@ class Stream:
             raise ended("mcg6", status, words)
         if self._failure is not None:
             raise self._failure
-        is_short = self.words[0] == "kinds" and self.yielded + len(self.bad) < self.sent
+        is_short = self.words[0] in ONE_LINE_EACH and self.yielded + len(self.bad) < self.sent
         if self._unread or self._unsent or self._ended_early or is_short:
             raise ProgramFailed("mcg6 ended before it had read the list", status)
 
@@ -162,7 +165,7 @@ class Stream:
             raise ProgramFailed("mcg6 named a line that was not sent", BAD_INPUT)
         self.bad = {line: self._bad_line(line, kind, what) for line, (kind, what) in found.items()}
         if not self.skips:
-            line = self.yielded + 1 if self.words[0] == "kinds" else None
+            line = self.yielded + 1 if self.words[0] in ONE_LINE_EACH else None
             raise self.bad[min(self.bad)] if self.bad else self._bad_line(line, None, "")
 
     def _bad_line(self, line: Optional[int], kind: Optional[int], what: str) -> BadGraph:

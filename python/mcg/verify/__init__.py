@@ -14,16 +14,25 @@ Each function takes the graph and a result of the function of `mcg` with the sam
     >>> edges = [("a", "b"), ("b", "c"), ("c", "d"), ("d", "a")]
     >>> mcg.verify.decompose(edges, mcg.decompose(edges))
 
-What is free is not compared: any tight cut decomposition passes `decompose`, whatever the order
-of choice was. `python -m mcg.verify GRAPH REPORT [FILES]` checks a report in a file.
+What is free is not compared: other valid ears, moves, maps and witnesses pass. `decompose` takes the
+order of choice, and without it any tight cut decomposition passes. `python -m mcg.verify [--order
+ORDER] GRAPH REPORT [FILES]` checks a report in a file: that of `decompose` must be the one that the
+order gives, or, where none is said, one that some picks give.
+
+Reports of `mcg6` are judged against their lists, line by line: `list_report` and `Judged`, and
+`python -m mcg.verify --list LIST REPORT COMMAND..`. All candidates for a cut are found by their
+definition.
 """
 from .files import report
+from .lists import Judged, LineFault, list_report
 from .moves import compare, replay
 from .stages import check_ears, ears
 from .structure import Wrong, analyse
 from .trees import check, decompose
 
 __all__ = [
+    "Judged",
+    "LineFault",
     "Wrong",
     "analyse",
     "check",
@@ -31,6 +40,7 @@ __all__ = [
     "compare",
     "decompose",
     "ears",
+    "list_report",
     "replay",
     "report",
 ]

@@ -154,11 +154,11 @@ def has_perfect(rows: Rows, mate: Sequence[int], removed: Sequence[int]) -> bool
     return all(gone[v] or left[v] != -1 or improved(rows, left, v, gone) for v in range(len(rows)))
 
 
-def together(
+def joint_matching(
     rows: Rows, mate: Sequence[int], v: int, w: int, allows: Callable[[int, int], bool]
-) -> bool:
-    """Returns whether some perfect matching has at v and at w only edges that are allowed there;
-    `mate` is a perfect matching."""
+) -> Optional[List[int]]:
+    """Returns a perfect matching that has at v and at w only edges that are allowed there, and None
+    if there is none; `mate` is a perfect matching."""
     near = [list(row) for row in rows]
     left = list(mate)
     gone = [False] * len(rows)
@@ -168,4 +168,13 @@ def together(
             near[x].remove(u)
         if left[u] != -1 and not allows(u, left[u]):
             left = without(left, [u])
-    return all(left[u] != -1 or improved(near, left, u, gone) for u in range(len(rows)))
+    is_perfect = all(left[u] != -1 or improved(near, left, u, gone) for u in range(len(rows)))
+    return left if is_perfect else None
+
+
+def together(
+    rows: Rows, mate: Sequence[int], v: int, w: int, allows: Callable[[int, int], bool]
+) -> bool:
+    """Returns whether some perfect matching has at v and at w only edges that are allowed there;
+    `mate` is a perfect matching."""
+    return joint_matching(rows, mate, v, w, allows) is not None
