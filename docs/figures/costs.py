@@ -1,4 +1,4 @@
-"""How the cost of each call grows: the table of docs/PERFORMANCE.md, drawn on logarithmic scales."""
+"""How the cost of each call grows: the table of docs/PERFORMANCE.md, which is in thousands, drawn in millions on logarithmic scales."""
 import re
 
 import matplotlib.pyplot as plt
@@ -13,10 +13,12 @@ CALLS = {
     "ears": (GREEN, "D", (0, (1, 1))),
     "LEMON": (INK, "x", (0, (6, 2))),
 }
+# What the legend says of a call, where it is not its name: the program on LEMON does the work of `analyse` alone.
+NAMES = {"LEMON": "LEMON (analyse only)"}
 
 
 def table():
-    """The thousands of instructions by family and call, of the table whose header begins with Family."""
+    """The millions of instructions by family and call, of the table whose header begins with Family."""
     with open(f"{ROOT}/docs/PERFORMANCE.md") as file:
         text = file.read()
     header, rows = re.search(r"^\| Family \| Call \|(.*?)\| Exponent \|\n\|[-|]*\|\n((?:\|.*\n)*)", text, re.M).groups()
@@ -24,7 +26,7 @@ def table():
     found = {}
     for row in rows.splitlines():
         family, call, *cells = (it.strip() for it in row.strip("|").split("|"))
-        points = [(n, float(cell.replace(",", ""))) for n, cell in zip(sizes, cells) if cell]
+        points = [(n, float(cell.replace(",", "")) / 1000) for n, cell in zip(sizes, cells) if cell]
         found.setdefault(family, {})[call] = points
     return sizes, found
 
@@ -32,9 +34,10 @@ def table():
 def draw_family(axes, family, calls, sizes):
     for call, (colour, mark, line) in CALLS.items():
         if calls.get(call):
-            axes.plot(*zip(*calls[call]), color=colour, marker=mark, linestyle=line, linewidth=1.4, markersize=4.5, label=call)
+            axes.plot(*zip(*calls[call]), color=colour, marker=mark, linestyle=line, linewidth=1.4, markersize=4.5, label=NAMES.get(call, call))
     axes.set_xscale("log", base=2)
     axes.set_yscale("log")
+    axes.set_yticks([0.1, 1, 10, 100], ["0.1", "1", "10", "100"])
     axes.set_xticks(sizes, [str(n) for n in sizes])
     axes.set_xlim(sizes[0] * 0.85, sizes[-1] * 1.18)
     axes.set_title(family, fontsize=9.5)
@@ -49,7 +52,7 @@ def make():
     for axes, (family, calls) in zip(grid.flat, families.items()):
         draw_family(axes, family, calls, sizes)
     for axes in grid[:, 0]:
-        axes.set_ylabel("thousands of instructions")
+        axes.set_ylabel("millions of instructions")
     for axes in (*grid[1, :2], grid[0, 2]):
         axes.set_xlabel("vertices")
         axes.tick_params(labelbottom=True)
@@ -59,5 +62,5 @@ def make():
     last.legend(handles.values(), handles.keys(), loc="center", frameon=False, fontsize=9.5, handlelength=3.6)
     figure.tight_layout()
     save(figure, "costs", "How the cost of each call grows with the graph",
-         f"Instructions of {', '.join(handles)} against the number of vertices on logarithmic scales, one panel for each family of graphs: "
+         f"Millions of instructions of {', '.join(handles)} against the number of vertices on logarithmic scales, one panel for each family of graphs: "
          f"{', '.join(families)}. The table in PERFORMANCE has the numbers and the exponents.")

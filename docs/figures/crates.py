@@ -1,29 +1,49 @@
-"""The crates as a map: a line leads down from a crate to one that it uses, unless a longer way down says so already."""
-import json
-import subprocess
-
+"""The crates as a map: layers of crates, with an arrow from each layer to one that it uses, unless a longer way says so already."""
 import matplotlib.pyplot as plt
 import networkx as nx
-from matplotlib.patches import FancyBboxPatch, PathPatch
-from matplotlib.path import Path
+from matplotlib.patches import FancyBboxPatch
 
 from drawing import INK, ROOT, TINTS, bare, save
 
-# What is left out, and the groups of crates.txt that share a colour, with what the colour stands for.
+# What is left out, and the layers: the groups of crates.txt that each has, its colour, its left and right end, and its row.
 LEFT_OUT = {"Tests", "An example for users of the library"}
-COLOURS = [
-    ("sets, lists, lines", "#e6e6e6", ["Words and sets", "Lines of texts, and their faults", "The outside", "Reasons for refusals, and kinds of files"]),
-    ("graphs and matchings", TINTS[0], ["Graphs", "Matchings"]),
-    ("cuts", TINTS[1], ["Cuts"]),
-    ("trees and ears", TINTS[2], ["Trees and ears"]),
-    ("texts and reports", "#f4eeb4", ["Texts", "Reports", "Graph files as graph6"]),
-    ("programs and lists", TINTS[3], ["Lists", "The tables of commands", "The words for a person", "Workbench"]),
-    ("theorems", "white", ["Theory for the reader", "Theorems, as a mathematician states them"]),
-]
+LAYERS = {
+    "theorems": (["Theorems, as a mathematician states them"], "white", 0, 800, 0),
+    "programs and lists": (["Lists", "Graph files as graph6", "Workbench"], TINTS[3], 0, 800, 1),
+    "texts and reports": (["Texts", "Reports"], "#f4eeb4", 0, 470, 2),
+    "words for a person": (["The tables of commands", "The words for a person"], TINTS[3], 505, 800, 2),
+    "trees and ears": (["Trees and ears"], TINTS[2], 0, 470, 3),
+    "refusals": (["Reasons for refusals, and kinds of files"], "#e6e6e6", 505, 638, 3),
+    "the system": (["The outside"], "#e6e6e6", 660, 800, 3),
+    "cuts": (["Cuts"], TINTS[1], 0, 470, 4),
+    "definitions": (["Theory for the reader"], "white", 505, 612, 4),
+    "matchings": (["Matchings"], TINTS[0], 0, 470, 5),
+    "graphs": (["Graphs"], TINTS[0], 0, 470, 6),
+    "sets, lists, lines": (["Words and sets", "Lines of texts, and their faults"], "#e6e6e6", 0, 800, 7),
+}
+# The way of each arrow: where it begins and ends, by x where it leads down, and by the layers' sides where it does not.
+WAYS = {
+    ("theorems", "programs and lists"): ("down", 400),
+    ("programs and lists", "texts and reports"): ("down", 235),
+    ("programs and lists", "words for a person"): ("down", 650),
+    ("programs and lists", "definitions"): ("down and right", 487),
+    ("texts and reports", "trees and ears"): ("down", 235),
+    ("words for a person", "refusals"): ("down", 571),
+    ("words for a person", "the system"): ("down", 730),
+    ("trees and ears", "refusals"): ("right", None),
+    ("trees and ears", "cuts"): ("down", 235),
+    ("cuts", "matchings"): ("down", 235),
+    ("definitions", "matchings"): ("down and left", 558),
+    ("matchings", "graphs"): ("down", 235),
+    ("graphs", "sets, lists, lines"): ("down", 235),
+    ("refusals", "sets, lists, lines"): ("down", 625),
+    ("the system", "sets, lists, lines"): ("down", 730),
+}
+CHIP, GAP, HEAD, BETWEEN = 17, 6, 15, 20  # the heights of a crate, between two, of a layer's name, and between layers
 
 
 def crates():
-    """The graph of the crates of crates.txt, an edge from each to what it uses; each has the group above it."""
+    """The graph of the crates of crates.txt, an edge from each to what it uses, and the group above each."""
     map_, group = nx.DiGraph(), ""
     with open(f"{ROOT}/crates.txt") as file:
         lines = file.read().splitlines()
@@ -38,45 +58,80 @@ def crates():
     return map_
 
 
-def layout(map_):
-    """The boxes and the curves that graphviz's dot gives the map without edges that longer ways imply."""
-    reduced = nx.transitive_reduction(map_)
-    dot = ["digraph {", 'node [shape=box, fontname="DejaVu Sans", fontsize=11, height=0.32, margin="0.09,0.03"];',
-           "ranksep=0.34; nodesep=0.16;", *sorted(f"{name};" for name in reduced), *sorted(f"{a} -> {b};" for a, b in reduced.edges), "}"]
-    ran = subprocess.run(["dot", "-Tjson"], input="\n".join(dot), capture_output=True, text=True, check=True)
-    return json.loads(ran.stdout)
+def arrows(map_):
+    """The arrows between layers that no longer way implies; they must be those that have a way."""
+    layer = {group: name for name, (groups, *_) in LAYERS.items() for group in groups}
+    of = {name: layer[map_.nodes[name]["group"]] for name in map_}
+    found = set(nx.transitive_reduction(nx.DiGraph({(of[a], of[b]) for a, b in map_.edges if of[a] != of[b]})).edges)
+    if found != set(WAYS):
+        raise SystemExit(f"crates.py: arrows without a way {sorted(found - set(WAYS))}, ways without an arrow {sorted(set(WAYS) - found)}")
+    return found
 
 
-def curve(text):
-    """The path of an edge's `pos`: the points of a spline, and where the arrow ends."""
-    parts = text.split()
-    end = [tuple(map(float, it[2:].split(","))) for it in parts if it.startswith("e,")]
-    points = [tuple(map(float, it.split(","))) for it in parts if not it.startswith("e,")]
-    return Path([*points, *end], [Path.MOVETO, *[Path.CURVE4] * (len(points) - 1), *[Path.LINETO] * len(end)])
+def rows_of(names, wide):
+    """The names in rows of that width, each with its left end and its width."""
+    rows, x = [[]], GAP
+    for name in names:
+        length = 12 + 5.3 * len(name)
+        if x + length + GAP > wide:
+            rows.append([])
+            x = GAP
+        rows[-1].append((name, x, length))
+        x += length + GAP
+    return rows
+
+
+def boxes(map_):
+    """Each layer's left, right, upper and lower end, and the rows of its crates, those that use the others first."""
+    first = {name: k for k, name in enumerate(nx.topological_sort(map_))}
+    chips = {}
+    for name, (groups, _colour, left, right, _row) in LAYERS.items():
+        chips[name] = rows_of(sorted((it for it in map_ if map_.nodes[it]["group"] in groups), key=first.get), right - left)
+    heights = [max(HEAD + len(chips[name]) * (CHIP + GAP) + 2 for name in LAYERS if LAYERS[name][4] == row) for row in range(1 + max(it[4] for it in LAYERS.values()))]
+    found = {}
+    for name, (_groups, _colour, left, right, row) in LAYERS.items():
+        upper = -sum(heights[:row]) - BETWEEN * row
+        found[name] = (left, right, upper, upper - heights[row], chips[name])
+    return found
+
+
+def draw_layer(axes, name, box):
+    left, right, upper, lower, rows = box
+    axes.add_patch(FancyBboxPatch((left, lower), right - left, upper - lower, boxstyle="round,pad=0,rounding_size=5", facecolor=LAYERS[name][1], edgecolor=INK, linewidth=0.9))
+    axes.annotate(name, (left + GAP + 1, upper - 9), ha="left", va="center", fontsize=8.2, fontweight="bold")
+    for k, row in enumerate(rows):
+        y = upper - HEAD - k * (CHIP + GAP) - CHIP / 2
+        for crate, x, length in row:
+            axes.add_patch(FancyBboxPatch((left + x, y - CHIP / 2), length, CHIP, boxstyle="round,pad=0,rounding_size=3", facecolor="white", edgecolor="#777777", linewidth=0.6))
+            axes.annotate(crate, (left + x + length / 2, y), ha="center", va="center_baseline", fontsize=7.4)
+
+
+def draw_arrow(axes, way, x, begin, end):
+    middle, line = (end[2] + end[3]) / 2, {"color": "#333333", "linewidth": 1.1, "solid_capstyle": "butt"}
+    if way == "right":
+        tail, head = (begin[1], middle), (end[0], middle)
+    elif way == "down":
+        tail, head = (x, begin[3]), (x, end[2])
+    else:
+        axes.plot([x, x], [begin[3], middle], **line)
+        tail, head = (x, middle), (end[0] if way == "down and right" else end[1], middle)
+    axes.annotate("", head, tail, arrowprops={"arrowstyle": "-|>", "shrinkA": 0, "shrinkB": 0, "mutation_scale": 9, **{key: line[key] for key in ("color", "linewidth")}})
 
 
 def make():
-    map_, drawn = crates(), layout(crates())
-    shade = {group: colour for _, colour, groups in COLOURS for group in groups}
-    wide, high = (float(it) for it in drawn["bb"].split(",")[2:])
-    figure = plt.figure(figsize=(wide / 100, high / 100 + 0.45))
-    axes = figure.add_axes([0.005, 0.005, 0.99, 0.99])
+    map_ = crates()
+    found, drawn = arrows(map_), boxes(map_)
+    wide, high = max(it[1] for it in drawn.values()), -min(it[3] for it in drawn.values())
+    figure = plt.figure(figsize=((wide + 8) / 100, (high + 8) / 100))
+    axes = figure.add_axes([0, 0, 1, 1])
     bare(axes)
     axes.set_xlim(-4, wide + 4)
-    axes.set_ylim(-36, high + 4)
-    for edge in drawn["edges"]:
-        axes.add_patch(PathPatch(curve(edge["pos"]), facecolor="none", edgecolor="#555555", linewidth=0.8, zorder=1))
-    for node in drawn["objects"]:
-        x, y = map(float, node["pos"].split(","))
-        w, h = 72 * float(node["width"]), 72 * float(node["height"])
-        axes.add_patch(FancyBboxPatch((x - w / 2, y - h / 2), w, h, boxstyle="round,pad=0,rounding_size=4", facecolor=shade[map_.nodes[node["name"]]["group"]],
-                                      edgecolor=INK, linewidth=0.9, zorder=2))
-        axes.annotate(node["name"], (x, y), ha="center", va="center_baseline", fontsize=7.6, zorder=3)
-    x = 0.0
-    for text, colour, _ in COLOURS:
-        axes.add_patch(FancyBboxPatch((x, -30), 12, 12, boxstyle="round,pad=0,rounding_size=2", facecolor=colour, edgecolor=INK, linewidth=0.8))
-        axes.annotate(text, (x + 17, -24), ha="left", va="center_baseline", fontsize=7.6)
-        x += 36 + 5.8 * len(text)
+    axes.set_ylim(-high - 4, 4)
+    for a, b in sorted(found):
+        draw_arrow(axes, *WAYS[a, b], drawn[a], drawn[b])
+    for name, box in drawn.items():
+        draw_layer(axes, name, box)
     save(figure, "crates", "The crates of Mcg",
-         f"{len(map_)} crates, with the programs at the top and sets, lists and lines at the bottom. A line leads down from each crate to those that "
-         "it uses. ARCHITECTURE has a table of the crates, and crates.txt the whole list of what each one uses.")
+         f"{len(map_)} crates in {len(LAYERS)} layers, with the theorems and the programs at the top and sets, lists and lines at the bottom. An arrow leads from "
+         "each layer to those that it uses, unless a longer way says so already. ARCHITECTURE has a table of the crates, and crates.txt the whole list of what "
+         "each one uses.")
