@@ -1,23 +1,26 @@
 -- From a barrier or a 2-separation inside a shore to an ELP cut that does not cross the given one: the
 -- other shore is connected, so it is in one component beside the barrier; and the shore of the
--- 2-separation cut is inside. If no other tight cut crosses nothing of the given one, they are equal.
+-- 2-separation cut is inside. If no other tight cut does not cross the given one, the two are equal.
 use Rattle.tree_check.proofs.from_counting.Common.{◌≡◌, ℕ, ◌≤◌, ◌≢◌, ◌⊎◌, true, false, ◌==◌, not, refl, sym, ap, ◌∙◌, arith, eqb-true, inl, inr, cases_eq, or_cases, both_ways, false_from_ne_true, not-true, not-false, not_not, alike_not_apart, two_of, count_mono, count_member, Within, count, Set, pair_set, union, complement, singleton}
 use Rattle.barrier_kit.proofs.Common.{part_nontrivial, part_step, part_tight, tight-turned, nontrivial-turned}
-use Rattle.graph_core.proofs.Common.{joined_self, walk_joined, IsCovered, Graph, IsGraph, IsBarrier, IsTight, IsNontrivial, HasPerfect, IsBicritical, first_end, second_end, Joined, joined}
+use Rattle.graph_core.proofs.Common.{joined_self, walk_joined, IsCovered, Graph, IsGraph, IsBarrier, IsTight, IsNontrivial, first_end, second_end, Joined, joined}
 use Rattle.quick_kinds.proofs.from_brick_kit.PairSeparations.{stays_joined}
 use Rattle.separation_kit.proofs.Separations.{separation_tight, separation_nontrivial}
+use Rattle.theorems.proofs.AllShelters.{sheltered}
 use Rattle.theorems.proofs.ConnectedShores.{tight_joined}
-use Rattle.theorems.proofs.EvenPockets.{Pocket, pocket_off, pocket_pair, pocket_part}
-use Rattle.theorems.proofs.PocketShelters.{HoldsPocket, critical_shelter}
+use Rattle.theorems.proofs.EvenPockets.{pocket_off, pocket_pair, pocket_part}
+use Rattle.theorems.proofs.GateSteps.{Shelter}
+use Rattle.theorems.proofs.Pockets.{Pocket, pocket_perfect}
 use Rattle.theorems.specs.Bricks.{HoldsReason, IsElpCut}
 use Rattle.theorems.specs.TightCuts.{Cross}
 
 -- a pocket and its first vertex inside a nontrivial shore contain the shore of a 2-separation cut
-pub pocket_reason : (g : Graph) (z m : Set) (a c : ℕ) → IsGraph g → IsNontrivial g.order z → Pocket g m a c → HasPerfect g (pair_set a c) → ((v : ℕ) → Within g.order v → m v ≡ true → z v ≡ true) → z a ≡ true → HoldsReason g z
-pocket_reason g z m a c is wide p perfect held za =
-    let u = count_member g.order m p.filled in
+pocket_reason : (g : Graph) (z m : Set) (a c : ℕ) → IsGraph g → IsCovered g → IsNontrivial g.order z → Pocket g m a c → ((v : ℕ) → Within g.order v → m v ≡ true → z v ≡ true) → z a ≡ true → HoldsReason g z
+pocket_reason g z m a c is cov wide p held za =
+    let u = count_member g.order m p.some in
     let off = pocket_off g m a c p u.0 u.2 in
     let cp = pocket_pair g m a c p is other.0 other.1 m_other off_other in
+    let perfect = pocket_perfect g is m a c p cov other.0 other.1 m_other off_other in
     inr (
       a,
       c,
@@ -145,12 +148,15 @@ module _ (g : Graph) (x : Set) (is : IsGraph g) (cov : IsCovered g) (tx : IsTigh
         ],
       )
 
--- a bicritical graph has a perfect matching beside each pocket
-pub critical_reasons : (g : Graph) → IsGraph g → IsCovered g → IsBicritical g → (x : Set) → IsTight g x → IsNontrivial g.order x → HoldsReason g x ⊎ HoldsReason g (complement x)
-critical_reasons g is cov bi x tx wide = elim (critical_shelter g is cov bi x tx wide) [
-  | inl h ↦ inl (from_pocket g is bi x wide h)
-  | inr h ↦ inr (from_pocket g is bi (complement x) (nontrivial-turned g.order x wide) h)
+-- a shelter contains a barrier, or the shore of a 2-separation cut
+pub shore_reasons : (g : Graph) → IsGraph g → IsCovered g → (x : Set) → IsTight g x → IsNontrivial g.order x → HoldsReason g x ⊎ HoldsReason g (complement x)
+shore_reasons g is cov x tx wide = elim (sheltered g is cov x tx wide) [
+  | inl s ↦ inl (from_shelter x wide s)
+  | inr s ↦ inr (from_shelter (complement x) (nontrivial-turned g.order x wide) s)
 ]
   where
-    from_pocket : (g : Graph) → IsGraph g → IsBicritical g → (z : Set) → IsNontrivial g.order z → HoldsPocket g z → HoldsReason g z
-    from_pocket g is bi z wide h = let p = h.pocket in pocket_reason g z h.set h.one h.other is wide p (bi h.one h.other p.first p.second p.different) h.contained h.first
+    from_shelter : (z : Set) → IsNontrivial g.order z → Shelter g z → HoldsReason g z
+    from_shelter z wide s = elim s [
+      | inl r ↦ inl (r.set, r.barrier, r.two, r.contained)
+      | inr r ↦ pocket_reason g z r.set r.one r.other is cov wide r.pocket r.contained r.first
+    ]

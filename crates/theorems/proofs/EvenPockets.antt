@@ -1,23 +1,12 @@
 -- Pockets: even sets that only edges at two vertices leave, as the components at a cut pair. With
 -- one of the two vertices a pocket has a tight cut: a perfect matching has at most one edge at each
 -- of the two, and an odd number in the cut.
-use Rattle.tree_check.proofs.from_counting.Common.{◌≡◌, ℕ, suc, ◌+◌, ◌*◌, ◌≤◌, ◌≢◌, Bool, true, false, ◌==◌, ◌&&◌, ◌||◌, not, refl, sym, ap, ◌∙◌, arith, eq-eqb, eqb-true, inl, inr, cases_Bool, or_cases, or_comm, both_ways, false_from_ne_true, odd-double, complement_odd, count_plus, count_minus, count_member, total_congr, total_add, total_le, total_none, Within, bit, count, is_odd, Set, pair_set, none, union, minus, singleton}
+use Rattle.tree_check.proofs.from_counting.Common.{◌≡◌, ℕ, suc, ◌+◌, ◌*◌, ◌≤◌, Bool, true, false, ◌==◌, ◌&&◌, ◌||◌, not, refl, sym, ap, ◌∙◌, arith, eq-eqb, eqb-true, inl, inr, cases_Bool, or_cases, or_comm, both_ways, false_from_ne_true, odd-double, complement_odd, count_plus, count_minus, count_member, total_congr, total_add, total_le, total_none, Within, bit, count, is_odd, Set, pair_set, none, union, minus, singleton}
 use Rattle.barrier_kit.proofs.Common.{ends_out, inner, leader_of, leader_same, leads_out}
 use Rattle.barrier_kit.proofs.from_match_search.NearPerfectSets.{ends_far, ends_near}
 use Rattle.graph_core.proofs.Common.{ends_of, degree_sum, degrees, parity, joined_walk, component_count, is_least, Graph, IsGraph, IsPerfect, IsTight, IsCutPair, degree, edges_in_cut, first_end, in_cut, second_end, size, joined}
 use Rattle.quick_kinds.proofs.from_brick_kit.PairSeparations.{separates, stays_joined}
-
--- an even set m, not empty, and two vertices a and c outside it; each edge that leaves m is at a or
--- at c
-pub record Pocket (g : Graph) (m : Set) (a c : ℕ) : Type 0 where
-  pub first : Within g.order a
-  pub second : Within g.order c
-  pub different : a ≢ c
-  pub out_first : m a ≡ false
-  pub out_second : m c ≡ false
-  pub even : is_odd (count g.order m) ≡ false
-  pub filled : 1 ≤ count g.order m
-  pub closed : (e : ℕ) → Within (size g) e → pair_set a c (first_end g e) ≡ false → pair_set a c (second_end g e) ≡ false → in_cut g m e ≡ false
+use Rattle.theorems.proofs.Pockets.{Pocket}
 
 -- a set of g - r that no edge of g - r leaves is even, if g - r has a perfect matching
 pub closed_even : (g : Graph) (r n z : Set) → IsGraph g → IsPerfect g r n → ((v : ℕ) → Within g.order v → z v ≡ true → r v ≡ false) →
@@ -43,17 +32,17 @@ module _ (g : Graph) (m : Set) (a c : ℕ) (p : Pocket g m a c) where
     first = p.second;
     second = p.first;
     different = λ e. p.different (sym e);
-    out_first = p.out_second;
-    out_second = p.out_first;
+    first_out = p.second_out;
+    second_out = p.first_out;
     even = p.even;
-    filled = p.filled;
+    some = p.some;
     closed = λ e w s t. p.closed e w (or_comm (a == first_end g e) (c == first_end g e) ∙ s) (or_comm (a == second_end g e) (c == second_end g e) ∙ t);
   }
 
   pub pocket_off : (v : ℕ) → m v ≡ true → pair_set a c v ≡ false
   pocket_off v h = false_from_ne_true (pair_set a c v) (λ t. elim (or_cases (a == v) (c == v) t) [
-    | inl k ↦ both_ways (m v) (ap m (sym (eqb-true a v k)) ∙ p.out_first) h
-    | inr k ↦ both_ways (m v) (ap m (sym (eqb-true c v k)) ∙ p.out_second) h
+    | inl k ↦ both_ways (m v) (ap m (sym (eqb-true a v k)) ∙ p.first_out) h
+    | inr k ↦ both_ways (m v) (ap m (sym (eqb-true c v k)) ∙ p.second_out) h
   ])
 
   -- what is joined to a vertex of m is in m
@@ -63,11 +52,11 @@ module _ (g : Graph) (m : Set) (a c : ℕ) (p : Pocket g m a c) where
   -- if there is a vertex outside, the two vertices are a cut pair
   pub pocket_pair : IsGraph g → (z : ℕ) → Within g.order z → m z ≡ false → pair_set a c z ≡ false → IsCutPair g a c
   pocket_pair is z wz mz oz =
-      let u = count_member g.order m p.filled in
+      let u = count_member g.order m p.some in
       separates g a c m u.0 z is p.first p.second p.different u.1 wz (pocket_off u.0 u.2) oz u.2 mz p.closed
 
   pub shore_size : count g.order (union m (singleton a)) ≡ count g.order m + 1
-  shore_size = count_plus g.order m a p.first p.out_first
+  shore_size = count_plus g.order m a p.first p.first_out
 
   -- an edge in the cut of m and a has an end a or an end c
   at_pair : (e : ℕ) → Within (size g) e → in_cut g (union m (singleton a)) e ≡ true → 1 ≤ ends_of g e a + ends_of g e c

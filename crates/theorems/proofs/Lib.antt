@@ -1,5 +1,14 @@
 pub mod AddedEdges
 pub mod AnalysesExist
+pub mod OddFamilies
+pub mod NearPockets
+pub mod LiftedReasons
+pub mod HalfBarriers
+pub mod GateSteps
+pub mod GatePockets
+pub mod ContractedShores
+pub mod BarrierCorners
+pub mod AllShelters
 pub mod BarrierShores
 pub mod BipartiteCovered
 pub mod BipartiteEars

@@ -5,14 +5,15 @@
 use Rattle.tree_check.proofs.from_counting.Common.{◌≡◌, ℕ, suc, ◌+◌, ◌*◌, ◌≤◌, ◌≢◌, Bool, true, false, ◌==◌, ◌&&◌, ◌||◌, not, refl, sym, ap, ap₂, ◌∙◌, arith, eq-eqb, eqb-true, ne_eqb, inl, inr, cases_Bool, cases_eq, or_cases, or_comm, both_ways, false_from_ne_true, not-true, true_from_ne_false, or_left, or_right, zero, odd-double, count_congr, count_minus, total_congr, total_add, Within, bit, count, is_odd, Set, pair_set, union, minus, complement, singleton}
 use Rattle.barrier_kit.proofs.Common.{even_order, inner, perfect_congr, two_less}
 use Rattle.graph_core.proofs.Common.{covered_perfect, drop_inside, degrees, IsCovered, Graph, IsGraph, IsPerfect, HasPerfect, IsTight, IsBicritical, Merges, degree, edges_in_cut, first_end, inside, second_end, size}
-use Rattle.theorems.proofs.EvenPockets.{Pocket, pocket_few, pocket_tight}
+use Rattle.theorems.proofs.EvenPockets.{pocket_few, pocket_tight}
+use Rattle.theorems.proofs.Pockets.{Pocket}
 
 module _ (g : Graph) (is : IsGraph g) (cov : IsCovered g) (bi : IsBicritical g) (m : Set) (a d : ℕ) (p : Pocket g m a d) where
   abbrev pub w : Set
   w = union m (singleton a)
 
   pub w_d : w d ≡ false
-  w_d = rw (p.out_second, ne_eqb a d p.different) refl
+  w_d = rw (p.second_out, ne_eqb a d p.different) refl
 
   pub even_g : is_odd g.order ≡ false
   even_g = let k = covered_perfect g is cov in even_order g k.0 is k.1

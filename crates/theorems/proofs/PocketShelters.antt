@@ -7,7 +7,8 @@ use Rattle.quick_kinds.proofs.from_brick_kit.Bricks.{shore_pair}
 use Rattle.quick_kinds.proofs.from_brick_kit.PairSeparations.{stays_joined}
 use Rattle.separation_kit.proofs.CutPairs.{beside_pair}
 use Rattle.theorems.proofs.ConnectedShores.{tight_joined}
-use Rattle.theorems.proofs.EvenPockets.{Pocket, other_part, closed_even, pocket_back, pocket_off, pocket_tight}
+use Rattle.theorems.proofs.EvenPockets.{other_part, closed_even, pocket_back, pocket_off, pocket_tight}
+use Rattle.theorems.proofs.Pockets.{Pocket}
 use Rattle.theorems.proofs.SmallerPockets.{Smaller, smaller_pocket}
 
 -- z contains a pocket and its first vertex
@@ -55,7 +56,7 @@ module _ (g : Graph) (is : IsGraph g) (cov : IsCovered g) (bi : IsBicritical g) 
       unjoined e we = no_edge_joins g is cov w y w_tight ty odd e we
 
       w_d : w d ≡ false
-      w_d = rw (p.out_second, ne_eqb a d p.different) refl
+      w_d = rw (p.second_out, ne_eqb a d p.different) refl
 
       w_a : w a ≡ true
       w_a = or_right (m a) (a == a) (eq-eqb a a refl)
@@ -79,11 +80,11 @@ module _ (g : Graph) (is : IsGraph g) (cov : IsCovered g) (bi : IsBicritical g) 
         at_a : q ≡ a → Result
         at_a e =
             let ya : y a ≡ true = ap y (sym e) ∙ parts_q.1 in
-            let out : (v : ℕ) → Within g.order v → m v ≡ true → y v ≡ false = λ v wv k. m_out v wv k (λ i. both_ways (m a) p.out_first (ap m (sym e ∙ i) ∙ k)) in
+            let out : (v : ℕ) → Within g.order v → m v ≡ true → y v ≡ false = λ v wv k. m_out v wv k (λ i. both_ways (m a) p.first_out (ap m (sym e ∙ i) ∙ k)) in
             elim (cases_Bool (y d)) [
               | inr o ↦ inr (inl (record { set = m; one = d; other = a; pocket = pocket_back g m a d p; contained = λ v wv k. ap not (out v wv k); first = ap not o }))
               | inl yd ↦
-                  let u = count_member g.order m p.filled in
+                  let u = count_member g.order m p.some in
                   let x = complement y in
                   let tx = tight-turned g y ty in
                   let size_same : count g.order m ≡ count g.order x = count_congr g.order m x (λ v wv. alike v wv (m v) (x v) refl refl
@@ -119,7 +120,7 @@ module _ (g : Graph) (is : IsGraph g) (cov : IsCovered g) (bi : IsBicritical g) 
             left_of b k h l = grind arith
 
             less_off : (v : ℕ) → minus m (singleton q) v ≡ true → pair_set q a v ≡ false
-            less_off v h = bits (m v) (q == v) (a == v) h (λ i. ap m (sym (eqb-true a v i)) ∙ p.out_first)
+            less_off v h = bits (m v) (q == v) (a == v) h (λ i. ap m (sym (eqb-true a v i)) ∙ p.first_out)
               where
                 bits : (b k l : Bool) → (b && not k) ≡ true → (l ≡ true → b ≡ false) → (k || l) ≡ false
                 bits b k l h i = grind arith
@@ -188,7 +189,7 @@ module _ (g : Graph) (is : IsGraph g) (cov : IsCovered g) (bi : IsBicritical g) 
   -- by induction on the size of the pocket
   sheltered : (k : ℕ) (m : Set) (a d : ℕ) → Pocket g m a d → (r : ℕ) → Within g.order r → m r ≡ false → pair_set a d r ≡ false → (y : Set) → IsTight g y → IsNontrivial g.order y → count g.order m ≤ k →
       HoldsPocket g y ⊎ HoldsPocket g (complement y)
-  sheltered zero m a d p r wr mr ar y ty wide le = let f = p.filled in absurd (omega arith)
+  sheltered zero m a d p r wr mr ar y ty wide le = let f = p.some in absurd (omega arith)
   sheltered (suc k) m a d p r wr mr ar y ty wide le = elim (cases_Bool (is_odd (count g.order (meet (union m (singleton a)) y)))) [
     | inl o ↦ elim (step m a d p r wr mr ar y ty wide o) [
       | inl s ↦ inl s
@@ -231,9 +232,9 @@ module _ (g : Graph) (is : IsGraph g) (cov : IsCovered g) (bi : IsBicritical g) 
         first = cp.first;
         second = cp.second;
         different = cp.different;
-        out_first = part_out g (pair_set q.0 q.1) l.0 q.0 is l.2 (or_left (q.0 == q.0) (q.1 == q.0) (eq-eqb q.0 q.0 refl));
-        out_second = part_out g (pair_set q.0 q.1) l.0 q.1 is l.2 (or_right (q.0 == q.1) (q.1 == q.1) (eq-eqb q.1 q.1 refl));
+        first_out = part_out g (pair_set q.0 q.1) l.0 q.0 is l.2 (or_left (q.0 == q.0) (q.1 == q.0) (eq-eqb q.0 q.0 refl));
+        second_out = part_out g (pair_set q.0 q.1) l.0 q.1 is l.2 (or_right (q.0 == q.1) (q.1 == q.1) (eq-eqb q.1 q.1 refl));
         even = closed_even g (pair_set q.0 q.1) n.0 m is n.1 (λ v wv k. joined_outside g (pair_set q.0 q.1) is l.0 v l.2 k) closed;
-        filled = member_count g.order m l.0 l.1 (walk_joined g (pair_set q.0 q.1) is l.0 l.0 l.1 (joined_self g (pair_set q.0 q.1) l.0));
+        some = member_count g.order m l.0 l.1 (walk_joined g (pair_set q.0 q.1) is l.0 l.0 l.1 (joined_self g (pair_set q.0 q.1) l.0));
         closed = closed;
       }) r.0 r.1 l.3 r.2 y ty wide (le_refl (count g.order m))

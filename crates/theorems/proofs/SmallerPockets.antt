@@ -8,8 +8,9 @@ use Rattle.graph_core.proofs.Common.{covered_perfect, covered_down, joined_self,
 use Rattle.quick_kinds.proofs.from_brick_kit.Bricks.{shore_pair}
 use Rattle.separation_kit.proofs.CutPairs.{beside_pair}
 use Rattle.theorems.proofs.MergedSets.{merged_set}
-use Rattle.theorems.proofs.EvenPockets.{Pocket, other_part, closed_even, pocket_off, shore_size}
+use Rattle.theorems.proofs.EvenPockets.{other_part, closed_even, pocket_off, shore_size}
 use Rattle.theorems.proofs.PocketContractions.{Lift, contracted_bicritical, f_in, f_out, in_w, lift, lift_apart, off_down, off_up, own_s, own_t, w_d, w_tight}
+use Rattle.theorems.proofs.Pockets.{Pocket}
 
 -- a smaller pocket, beside the vertex r
 pub record Smaller (g : Graph) (m : Set) (r : ℕ) : Type 0 where
@@ -191,10 +192,10 @@ module _ (g : Graph) (is : IsGraph g) (cov : IsCovered g) (bi : IsBicritical g) 
         first = ls.within;
         second = lt.within;
         different = lift_apart g is cov bi m a d p h f c ish merge s t ls lt cp.different;
-        out_first = off_small ls.vertex (own_s g is cov bi m a d p h f c ish merge s t ls lt cp.different);
-        out_second = off_small lt.vertex (own_t g is cov bi m a d p h f c ish merge s t ls lt cp.different);
+        first_out = off_small ls.vertex (own_s g is cov bi m a d p h f c ish merge s t ls lt cp.different);
+        second_out = off_small lt.vertex (own_t g is cov bi m a d p h f c ish merge s t ls lt cp.different);
         even = small_even;
-        filled = small_filled;
+        some = small_filled;
         closed = small_closed;
       };
       less = small_less;

@@ -3,7 +3,8 @@
 //!
 //! Sources: Edmonds, Lovász and Pulleyblank, "Brick decompositions and the matching rank of
 //! graphs" (Combinatorica 2, 1982); Carvalho, Lucchesi and Murty, "On tight cuts in matching
-//! covered graphs" (Journal of Combinatorics, 2018).
+//! covered graphs" (Journal of Combinatorics, 2018); Chen, Feng, Lu, Lucchesi and Zhang, "Laminar
+//! tight cuts in matching covered graphs" (Journal of Combinatorial Theory, Series B, 2021).
 ghost use Rattle.std.specs.Prelude.{◌≡◌, ◌≢◌, ℕ, ◌+◌, ◌≤◌, ◌⊎◌, ◌↔◌, true, false, not};
 ghost use Rattle.tree_check.specs.from_counting.Common.{Within, count, is_odd, pair_set, Set, singleton, union, complement};
 ghost use Rattle.graph_core.specs.Common.{IsCovered, Graph, HasPerfect, IsBipartite, IsGraph, IsMultigraph, IsBarrier, IsBicritical, IsCutPair, HasOnlyTrivialTightCuts, IsNontrivial, IsTight, IsSide, first_end, in_cut, joined, second_end, size};
@@ -44,10 +45,11 @@ pub fn elp_cuts_law()
 /// barrier B. A graph is a brick if and only if it has at least four vertices, is bicritical and
 /// has no cut pair; a graph with at least four vertices has no cut pair if and only if it is
 /// 3-connected; so a graph is a brick if and only if it is 3-connected and bicritical (Edmonds,
-/// Lovász and Pulleyblank 1982; Lovász 1987). In a bicritical graph each nontrivial tight cut has
-/// an ELP cut that does not cross it, with a reason inside one of its shores; if it is the only
-/// nontrivial tight cut that does not cross it, it is an ELP cut itself (Carvalho, Lucchesi and
-/// Murty 2018).
+/// Lovász and Pulleyblank 1982; Lovász 1987). One of the shores of each nontrivial tight cut of a
+/// matching covered graph contains a barrier with at least two vertices, or the shore of a
+/// 2-separation cut (the latter if the graph is bicritical), so some ELP cut does not cross it. If
+/// it is the only nontrivial tight cut that does not cross it, it is an ELP cut itself (conjectured
+/// by Carvalho, Lucchesi and Murty 2018; Chen, Feng, Lu, Lucchesi and Zhang 2021).
 pub fn elp_law()
     ensures cut { (g : Graph) (x : Set) → IsMultigraph g → IsCovered g →
         IsTight g x → IsNontrivial g.order x →
@@ -63,12 +65,12 @@ pub fn elp_law()
     ensures three_connected { (g : Graph) → IsMultigraph g →
         (IsCovered g × (¬ (IsBipartite g)) × HasOnlyTrivialTightCuts g) ↔
         (IsThreeConnected g × IsBicritical g) }
-    ensures beside { (g : Graph) (x : Set) → IsGraph g → IsCovered g → IsBicritical g →
+    ensures beside { (g : Graph) (x : Set) → IsGraph g → IsCovered g →
         IsTight g x → IsNontrivial g.order x →
         (y : Set) × IsElpCut g y × (¬ (Cross g.order x y)) }
-    ensures inside { (g : Graph) (x : Set) → IsGraph g → IsCovered g → IsBicritical g →
+    ensures inside { (g : Graph) (x : Set) → IsGraph g → IsCovered g →
         IsTight g x → IsNontrivial g.order x → HoldsReason g x ⊎ HoldsReason g (complement x) }
-    ensures alone { (g : Graph) (x : Set) → IsGraph g → IsCovered g → IsBicritical g →
+    ensures alone { (g : Graph) (x : Set) → IsGraph g → IsCovered g →
         IsTight g x → IsNontrivial g.order x →
         ((y : Set) → IsTight g y → IsNontrivial g.order y → ¬ (Cross g.order x y) →
         ((v : ℕ) → Within g.order v → x v ≡ y v) ⊎

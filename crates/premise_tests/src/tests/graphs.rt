@@ -69,6 +69,8 @@ pub const THREE_PARALLEL: Given = (2, &[12, 12, 12]);
 
 pub const K23: Given = (5, &[13, 14, 15, 23, 24, 25]);
 
+pub const K24: Given = (6, &[13, 14, 15, 16, 23, 24, 25, 26]);
+
 /// The hexagon with loops at 1, 3 and 5.
 pub const LOOPED_HEXAGON: Given = (6, &[12, 23, 34, 45, 56, 61, 11, 33, 55]);
 

@@ -9,7 +9,9 @@ use super::claims::Property::{
     BarrierCut, Bicritical, Bipartite, Composite, Connected, Covered, Loopless, Nonbipartite,
     SeparationCut, ThreeConnected, TwoExtendable, Unseparated,
 };
-use super::graphs::{K2, K2_WITH_LOOP, K4, K33, SHORE_NO_PART, STAR_OF_5, THREE_ISOLATED, TWO_K4};
+use super::graphs::{
+    K2, K2_WITH_LOOP, K4, K24, K33, SHORE_NO_PART, STAR_OF_5, THREE_ISOLATED, TWO_K4,
+};
 use super::rows::{Row, all_are_so};
 use std::test::Fail;
 
@@ -44,7 +46,29 @@ static CUTS: [Row; 2] = [
     },
 ];
 
-static CUTS_BESIDE: [Row; 3] = [
+static CUTS_BESIDE: [Row; 5] = [
+    Row {
+        premises: &["elp_law: `beside`, `alone`: matching covered"],
+        graph: "the star K1,5",
+        given: STAR_OF_5,
+        holds: &[Set(&[Tight, Nontrivial, Alone], &[1, 2, 3])],
+        fails: &[
+            Is(&[Covered]),
+            Set(&[Perfect], &[]),
+            Set(&[ElpCutBeside, ElpCut], &[1, 2, 3]),
+        ],
+    },
+    Row {
+        premises: &["elp_law: `inside`: matching covered"],
+        graph: "the complete bipartite graph K2,4",
+        given: K24,
+        holds: &[Set(&[Tight, Nontrivial], &[1, 3, 4])],
+        fails: &[
+            Is(&[Covered]),
+            Set(&[Perfect], &[]),
+            Set(&[ReasonInside], &[1, 3, 4]),
+        ],
+    },
     Row {
         premises: &["elp_law: `beside`, `inside`, `alone`: tight"],
         graph: "two copies of K4 sharing an edge",

@@ -1,6 +1,6 @@
 use Rattle.theorems.proofs.BarrierShores.{shore_barrier}
 use Rattle.theorems.proofs.BrickFacts.{brick_facts_of, brick_from, three_brick}
-use Rattle.theorems.proofs.CutsBeside.{critical_reasons, elp_alone, elp_beside}
+use Rattle.theorems.proofs.CutsBeside.{elp_alone, elp_beside, shore_reasons}
 use Rattle.theorems.proofs.NamedCuts.{named_cut}
 use Rattle.theorems.proofs.ThreeConnected.{pair_or_three}
 use Rattle.theorems.proofs.bricks.elp_law.Goals as goal
@@ -21,10 +21,10 @@ pub returns-clause-three_connected : goal.returns-clause-three_connected
 returns-clause-three_connected c g is = three_brick g is
 
 pub returns-clause-beside : goal.returns-clause-beside
-returns-clause-beside c g x is cov bi t wide = elp_beside g x is cov t wide (critical_reasons g is cov bi x t wide)
+returns-clause-beside c g x is cov t wide = elp_beside g x is cov t wide (shore_reasons g is cov x t wide)
 
 pub returns-clause-inside : goal.returns-clause-inside
-returns-clause-inside c g x is cov bi t wide = critical_reasons g is cov bi x t wide
+returns-clause-inside c g x is cov t wide = shore_reasons g is cov x t wide
 
 pub returns-clause-alone : goal.returns-clause-alone
-returns-clause-alone c g x is cov bi t wide lone = elp_alone g x is cov t wide (critical_reasons g is cov bi x t wide) lone
+returns-clause-alone c g x is cov t wide lone = elp_alone g x is cov t wide (shore_reasons g is cov x t wide) lone
