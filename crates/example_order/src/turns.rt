@@ -10,7 +10,8 @@ use tree_check::tight_cuts::Candidate;
 use tree_core::Tree;
 
 /// Decomposes the graph by the first candidate if the number of cuts before the node is even, and
-/// otherwise by the last one. `NotCovered` comes if and only if the graph is not matching covered.
+/// otherwise by the last one. `NotCovered` comes if and only if the graph is not matching covered;
+/// the other error is `Memory`. Costs what `decompose` costs.
 pub fn decompose_by_turns(alloc: Global, g: &MultiGraph) -> Result<Tree, Refused>
     ensures derivation { IfOk result (λ tree. IsDerivation g.now (shape_of tree)) }
     ensures uncovered { (r : _) → result ≡ Err (Refused.NotCovered r) → ¬ IsCovered g.now }

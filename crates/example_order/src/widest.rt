@@ -54,9 +54,10 @@ fn widest_tree(alloc: Global, g: &MultiGraph) -> Result<Tree, Failed>
 }
 
 /// Reads the text of a graph, in either version of the graph format, decomposes the graph by the
-/// widest cuts, and has the derivation checked. `Text` comes if and only if the text does not stand
-/// for a graph, with its first error, or if memory runs out; `NotCovered` comes if and only if the
-/// graph is not matching covered.
+/// widest cuts, and has the derivation checked. The error is a `Failed`: `Text` if and only if the
+/// text does not stand for a graph, with its first error, or if memory runs out; `NotCovered` if
+/// and only if the graph is not matching covered; else `Memory`. Costs what `decompose` costs,
+/// O(c m) time at each node with c candidates, and what `check` costs.
 pub fn decompose_widest(alloc: Global, text: &[u8]) -> Result<Decomposed, Failed>
     requires { length text.now < 2 ^ 32 - 1 }
     ensures stands { IfOk result (λ made. Stands either_version text.now (named_graph made.named)) }

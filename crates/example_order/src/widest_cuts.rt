@@ -9,7 +9,7 @@ use graph_core::vset_core::VSet;
 use graph_core::{MultiGraph, is_in_cut};
 use tree_check::tight_cuts::Candidate;
 
-/// The number of edges in the cut of a set of vertices.
+/// The number of edges in the cut of a set of vertices. Takes O(m) time.
 pub fn cut_width(g: &MultiGraph, shore: VSet) -> u32
     ensures { result ≡ count (size g.now) (in_cut g.now (mem shore)) }
 {
@@ -23,8 +23,9 @@ pub fn cut_width(g: &MultiGraph, shore: VSet) -> u32
     width
 }
 
-// The place of the first candidate whose cut has the most edges.
-fn widest_place(g: &MultiGraph, list: &[Candidate]) -> usize
+/// The place of the first candidate whose cut has the most edges, in a list of at least one. Takes
+/// O(c m) time for c candidates.
+pub(crate) fn widest_place(g: &MultiGraph, list: &[Candidate]) -> usize
     requires { 0 < length list.now }
     ensures { IsWidest g.now list.now result }
 {
