@@ -78,11 +78,10 @@ def census(
         source = sys.stdin.buffer if name == UNNAMED else stack.enter_context(open(name, "rb"))
         found = stack.enter_context(closing(CensusFile(file)))
         lines = _Lines(source)
-        done = found.done(name)
-        if done is None:
-            done = found.begin(name, lines.sha256, edges)
-        else:
-            _demand_same(name, lines, done, edges)
+        begun = found.done(name)
+        if begun is not None:
+            _demand_same(name, lines, begun, edges)
+        done = begun or found.begin(name, lines.sha256, edges)
         first = done.lines
         for part in _parts(lines, edges, processes):
             done = found.add(done, part, lines.count, lines.sha256)
