@@ -122,7 +122,7 @@ class Comparison(Drawable):
 
     def draw(self, **options: Any) -> Picture:
         """Returns the picture: both trees, matched leaves alike, and an arrow for each move. The
-        options are those of `mcg.draw.draw_comparison`: `pos`, `labels`, `title`, `ax`."""
+        options are those of `mcg.draw.draw_comparison`: `pos`, `graphs`, `labels`, `title`, `ax`."""
         from .draw.comparisons import draw_comparison
 
         return draw_comparison(self, **options)

@@ -2,7 +2,7 @@
 from __future__ import annotations
 
 import re
-from typing import Any, Literal, Tuple, Union
+from typing import Any, Literal, Tuple, Union, cast
 
 Order = Literal["first", "last", "balanced"]
 ORDERS = ("first", "last", "balanced")
@@ -18,14 +18,14 @@ Property = Union[
 PROPERTIES = ("covered", "uncovered", "perfect", "brick", "brace", "bicritical", "composite")
 
 
-def order_word(order: Any) -> str:
+def order_word(order: Any) -> Order:
     """Returns an order of choice as it was given. Raises `ValueError` for another value.
 
     >>> order_word("last")
     'last'
     """
     if isinstance(order, str) and order in ORDERS:
-        return order
+        return cast(Order, order)
     raise ValueError(f"order is {' or '.join(ORDERS)}, and not {order!r}")
 
 

@@ -1,8 +1,8 @@
 """Runs the tests of the Python package: python3 python/tests [-v] [NAMES], after the gate or ./build has made the proved programs.
 
-They call the proved fronts in crates/, or what MCG and MCG6 name. A program that is missing is a failure. What needs NetworkX is
-skipped if it cannot be imported, and listed by name. It ends with a line `python: N passed, M failed, K skipped`, and with status 1
-if a test failed.
+They call the proved fronts in crates/, or what MCG and MCG6 name. A program that is missing is a failure. What needs NumPy, NetworkX,
+Matplotlib, Dask, Sage, mypy or Chromium is skipped if that is missing, and listed by name. It ends with a line
+`python: N passed, M failed, K skipped`, and with status 1 if a test failed.
 """
 import os
 import sys

@@ -1,4 +1,5 @@
 """Pictures of decompositions, ears and comparisons."""
+import re
 import subprocess
 import unittest
 from xml.etree import ElementTree
@@ -11,6 +12,24 @@ def texts(picture):
     """The lines of text of a picture."""
     root = ElementTree.fromstring(picture.to_svg())
     return ["".join(it.itertext()) for it in root.iter(f"{SVG}text")]
+
+
+def outlined(picture):
+    """The boxes of the nodes of an outline, that of a leaf with its caption, and the lines between them."""
+    boxes, lines = [], []
+    for it in ElementTree.fromstring(picture.to_svg()):
+        if it.tag == f"{SVG}circle":
+            x, y = float(it.get("cx")), float(it.get("cy"))
+            boxes.append((x - 11.5, y - 10, x + 11.5, y + 11.5))
+        elif it.tag == f"{SVG}rect" and it.get("width") == "20":
+            x, y = float(it.get("x")), float(it.get("y"))
+            boxes.append((x - 3, y, x + 23, y + 34))  # a caption is at most 26 wide here
+        elif it.tag == f"{SVG}path":
+            found = re.fullmatch("M([-0-9.]+) ([-0-9.]+)L([-0-9.]+) ([-0-9.]+)", it.get("d"))
+            if found:  # (the bar over the name of a set is no such line)
+                x, y, *end = map(float, found.groups())
+                lines.append(((x, y), tuple(end)))
+    return boxes, lines
 
 
 @needs_layout
@@ -62,6 +81,25 @@ class TestTrees(unittest.TestCase):
         self.assertNotEqual(picture.to_svg(), decomposition.draw(graphs=True).to_svg())
         single = [block for leaf in decomposition.leaves for block in leaf.blocks if len(block) == 1]
         self.assertEqual(len(single), decomposition.graph.order, "each vertex has one letter")
+
+    def test_an_outline_has_room(self):
+        """No node of an outline, with the caption below it, meets another node or a line to one."""
+        from mcg.draw.geometry import touches
+
+        count = 0
+        for graph in [example("chain"), *(grown(seed, pieces) for seed, pieces in ((1, 16), (2, 12), (3, 9)))]:
+            for order in ("first", "last"):
+                boxes, lines = outlined(mcg.decompose(graph, order).draw(graphs=False))
+                for k, box in enumerate(boxes):
+                    for other in boxes[:k]:
+                        is_apart = box[0] >= other[2] or other[0] >= box[2] or box[1] >= other[3] or other[1] >= box[3]
+                        self.assertTrue(is_apart, (graph, order, box, other))
+                    middle = (box[0] + box[2]) / 2, box[1] + 10
+                    for line in lines:
+                        is_foreign = all(abs(x - middle[0]) + abs(y - middle[1]) > 5 for x, y in line)
+                        self.assertFalse(is_foreign and touches(box, (*line[0], *line[1])), (box, line))
+                        count += is_foreign
+        self.assertGreater(count, 3000)
 
     def test_long_names_get_a_key(self):
         names = ["Ada", "Grace", "Emmy", "Sofja", "Maryam", "Hypatia"]
@@ -149,6 +187,20 @@ class TestComparisons(unittest.TestCase):
         for move in (mcg.Rotate("k"), mcg.Rotate("kk"), mcg.Switch("m", frozenset({1}), frozenset({2}))):
             with self.assertRaises(ValueError):
                 moved(shape, move, example("two_k4"))
+
+    @needs_layout
+    def test_large_trees_are_lettered(self):
+        """Each vertex has the letter of its leaf in both trees, and partners have the same letter in both."""
+        graph = grown(2, 9)
+        first, second = mcg.decompose(graph), mcg.decompose(graph, "last")
+        found = mcg.compare(graph, first, second)
+        picture = found.draw()
+        written, moves = texts(picture), len(found.moves)
+        for leaf, partner, _ in found.pairs:
+            single = sum(len(block) == 1 for at in (first.leaves[leaf], second.leaves[partner]) for block in at.blocks)
+            letter = "ABCDEFGHI"[leaf]
+            self.assertEqual(written.count(letter), single + 2 + min(moves, 40) + 1, letter)
+        self.assertGreater(len(found.draw(graphs=True).to_svg()), len(picture.to_svg()))
 
     @needs_layout
     def test_what_is_written(self):

@@ -64,10 +64,10 @@ def changed_line(draw, text):
     return "".join(f"{row}\n" for row in rows)
 
 
-def told(files, command, names, words=()):
-    """A command, its report, and the texts of the files after the graph."""
-    report = run(command, ["graph", *names, *words], files)[1]
-    return command, "".join(f"{row}\n" for row in report), [files[it] for it in names]
+def told(files, command, names, words=(), order=None):
+    """A command, its report, the texts of the files after the graph, and the order of choice."""
+    report = run(command, ["graph", *words, *names], files)[1]
+    return command, "".join(f"{row}\n" for row in report), [files[it] for it in names], order
 
 
 def reports(graph, draw):
@@ -84,7 +84,9 @@ def reports(graph, draw):
     files.update(tree=first.to_text(), other=second.to_text(), leaf=leaf["tree"])
     files["moves"] = mcg.script(numbered, first, second).to_text(numbered)
     files["ears"] = mcg.ears(numbered).to_text(numbered)
-    yield from (told(files, "decompose", [], [it]) for it in ("first", "last"))
+    files["picks"] = mcg.Picks([draw.randrange(6) for _ in range(3)]).to_text()
+    yield from (told(files, "decompose", [], [it], order) for it in ("first", "last", "balanced") for order in (it, None))
+    yield told(files, "decompose", ["picks"], ["script"])
     for command, names in (
         ("check", ["tree"]), ("ears", []), ("checkears", ["ears"]), ("compare", ["tree", "other"]), ("script", ["tree", "other"]),
         ("replay", ["tree", "moves"]), ("compare", ["tree", "leaf"]), ("script", ["leaf", "other"]),
@@ -215,14 +217,14 @@ def fuzz(seed, graphs, changes):
     draw, made, accepted, wrong = random.Random(seed), {}, {}, []
     for graph in [it for pair in zip(covered(seed, graphs), drawn(seed, graphs)) for it in pair]:
         text = mcg.Graph(graph).to_text()
-        for command, report, files in reports(graph, draw):
+        for command, report, files, order in reports(graph, draw):
             for k in range(changes):
                 changed = (changed_byte, changed_word, changed_line)[k % 3](draw, report)
                 if changed == report:
                     continue
                 made[command] = made.get(command, 0) + 1
                 try:
-                    mcg.verify.report(text, changed, *files)
+                    mcg.verify.report(text, changed, *files, order=order)
                 except (Wrong, mcg.BadInput):
                     continue
                 accepted[command] = accepted.get(command, 0) + 1

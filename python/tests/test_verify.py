@@ -3,16 +3,19 @@ import io
 import os
 import random
 import re
+import subprocess
 import tempfile
 import time
 import unittest
 from contextlib import redirect_stderr, redirect_stdout
 from dataclasses import replace
+from itertools import product
 
 from support import ROOT, covered, cycle, drawn, mcg
 
 import mcg.verify
 import mcg.verify.__main__ as program
+from mcg import report_texts
 from mcg.programs import run
 from mcg.verify import Wrong
 
@@ -65,6 +68,37 @@ def spoiled(draw, report):
     else:
         del lines[k]
     return "\n".join(lines) + "\n"
+
+
+def text_of(decomposition):
+    """The report of `decompose` with a tree."""
+    return "\n".join(report_texts.decompose_lines(decomposition)) + "\n"
+
+
+def trees_of_a_cycle(around, graph):
+    """All tight cut decompositions of a cycle, given by its blocks in their order. Each cut parts two paths of odd length."""
+    blocks = [frozenset([it]) if isinstance(it, int) else it for it in around]
+    count, found = len(blocks), False
+    for size in range(3, count - 2, 2):
+        for start in range(count):
+            path = [(start + k) % count for k in range(size)]
+            if count - 1 in path:  # this block has the last vertex
+                continue
+            shore, other = (frozenset().union(*(blocks[k] for k in part)) for part in (path, [k for k in range(count) if k not in path]))
+            kept = [blocks[k] for k in path] + [other]
+            after = [(start + size + k) % count for k in range(count - size)]
+            merged = [blocks[k] for k in after] + [shore]
+            for one, two in product(trees_of_a_cycle(turned(kept), graph), trees_of_a_cycle(turned(merged), graph)):
+                found = True
+                yield mcg.Cut(shore, one, two)
+    if not found:
+        yield mcg.Leaf()
+
+
+def turned(blocks):
+    """The blocks of a cycle with that of the last vertex at the end."""
+    at = max(range(len(blocks)), key=lambda k: max(blocks[k]))
+    return blocks[at + 1 :] + blocks[: at + 1]
 
 
 class Agrees(unittest.TestCase):
@@ -121,6 +155,75 @@ class Agrees(unittest.TestCase):
                 status, report = run("decompose", ["graph", "first"], {"graph": numbered.to_text()})
                 self.assertEqual(status, 1)
                 self.assertEqual(mcg.verify.report(numbered.to_text(), report[0] + "\n"), "verdict")
+
+
+class Orders(unittest.TestCase):
+    """Which candidate each cut is."""
+
+    def test_each_order(self):
+        """Each tree passes with its own order, and with another only if that gives the same one."""
+        draw, passed, refused = random.Random(36), 0, 0
+        for graph in covered(36, 60):
+            orders = ["first", "last", "balanced", *([draw.randrange(7) for _ in range(draw.randrange(1, 4))] for _ in range(3))]
+            trees = [mcg.decompose(graph, order) for order in orders]
+            for k, order in enumerate(orders):
+                for tree in trees:
+                    if tree == trees[k]:
+                        mcg.verify.decompose(graph, tree, order)
+                        passed += 1
+                    else:
+                        self.assertRaises(Wrong, mcg.verify.decompose, graph, tree, order)
+                        mcg.verify.decompose(graph, tree)
+                        refused += 1
+        self.assertGreater(min(passed, refused), 100)
+        self.assertRaises(ValueError, mcg.verify.decompose, graph, trees[0], "frist")
+
+    def test_larger_graphs(self):
+        count = 0
+        for seed, pieces in ((1, 8), (2, 12), (3, 16)):
+            text = subprocess.run([os.environ["MCG"], "grow", str(seed), str(pieces)], capture_output=True, text=True, check=True).stdout
+            graph = mcg.Graph.from_text(text)
+            for order in ("first", "last", "balanced", [5, 0, 7, 1, 2]):
+                mcg.verify.decompose(graph, mcg.decompose(graph, order), order)
+                count += 1
+        self.assertEqual(count, 12)
+
+    def test_trees_that_no_picks_give(self):
+        """Of the 24 decompositions of a cycle of length 8, picks reach 15, as FORMATS says: the others are tight cut
+        decompositions, and no reports of `decompose`."""
+        numbered, reached, others = mcg.Graph(cycle(8)), set(), set()
+        for picks in product(range(8), range(4), range(4)):
+            reached.add(mcg.decompose(numbered, picks))
+        for tree in trees_of_a_cycle(range(8), numbered):
+            found = mcg.Decomposition(numbered, tree, ["brace"] * 3)
+            mcg.verify.decompose(numbered, found)
+            report = text_of(found)
+            if found in reached:
+                mcg.verify.report(numbered.to_text(), report)
+            else:
+                self.assertRaisesRegex(Wrong, "none of the [0-9]+ candidates", mcg.verify.report, numbered.to_text(), report)
+                others.add(found)
+        self.assertEqual((len(reached), len(others)), (15, 9))
+
+    def test_a_report_and_its_order(self):
+        """The report of one order is not one of another, unless they are the same; picks count up to the last cut."""
+        draw, refused = random.Random(37), 0
+        for graph in covered(37, 30):
+            files = {"graph": mcg.Graph(graph).to_text(), "picks": mcg.Picks([draw.randrange(9) for _ in range(3)]).to_text()}
+            said = {it: text("decompose", [], [it], files) for it in ("first", "last", "balanced")}
+            said["picks"] = text("decompose", [], ["script", "picks"], files)
+            for order, name in product(("first", "last", "balanced", "picks"), said):
+                how = {"order": order} if order != "picks" else {}
+                more = [files["picks"]] if order == "picks" else []
+                if said[name] == said[order]:
+                    self.assertEqual(mcg.verify.report(files["graph"], said[name], *more, **how), "decompose")
+                else:
+                    self.assertRaises(Wrong, mcg.verify.report, files["graph"], said[name], *more, **how)
+                    refused += 1
+        self.assertGreater(refused, 30)
+        for how in ({"order": "frist"}, {"order": "first", "more": [files["picks"]]}):
+            self.assertRaises(ValueError, mcg.verify.report, files["graph"], said["first"], *how.pop("more", []), **how)
+        self.assertRaises(ValueError, mcg.verify.report, files["graph"], text("analyse", [], [], files), order="first")
 
 
 class Contradicts(unittest.TestCase):
@@ -246,6 +349,13 @@ class Program(unittest.TestCase):
             self.assertEqual((status, errors), (1, ""))
             self.assertIn("wrong: the count of the leaves", out)
             self.assertEqual(self.ran(graph, f"{folder}/report")[0], 2)
+        self.assertEqual(self.ran("--order", "first", graph, tree), (0, f"{tree}: a report of decompose, and it is right\n", ""))
+        status, out, errors = self.ran("--order", "last", graph, tree)
+        self.assertEqual((status, out, errors), (1, f"{tree}: wrong: cut 1 (in preorder) is not the one that the order last takes\n", ""))
+        self.assertEqual(self.ran(graph, f"{EXAMPLES}/two_k4_last.tree", f"{EXAMPLES}/two_k4.picks")[0], 0)
+        self.assertEqual(self.ran(graph, tree, f"{EXAMPLES}/two_k4.picks")[0], 1)
+        for words in (("--order", "frist", graph, tree), ("--order", "first", tree), ("--order", "first", graph, tree, f"{EXAMPLES}/two_k4.picks")):
+            self.assertEqual(self.ran(*words)[0], 2)
         self.assertEqual(self.ran(graph, graph)[0], 2)
         self.assertEqual(self.ran(graph, "/nowhere")[0], 2)
         self.assertEqual(self.ran(graph)[0], 2)

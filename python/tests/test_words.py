@@ -5,6 +5,7 @@ import re
 import subprocess
 import tempfile
 import unittest
+from itertools import combinations
 
 from support import covered, cycle, drawn, mcg
 
@@ -40,6 +41,25 @@ def in_labels(report, words, graph):
     words = re.sub(", shore((?: [0-9]+)+)", lambda it: f", shore {vertices(it[1])}", words)
     words = re.sub(r"\bedge ([0-9]+)", lambda it: f"edge {shown(graph.edge(int(it[1])))}", words)
     return re.sub("vertex ([0-9]+)", lambda it: f"vertex {shown(graph.label(int(it[1])))}", words)
+
+
+def each_ear_fault(labels):
+    """K4 on four labels, with lists of ears that are refused, so that each of the seven reasons comes."""
+    a, b, c, d = labels
+    graph = (list(labels), list(combinations(labels, 2)))
+    round_a_b = (mcg.Ear(a, ((a, d), (c, d), (b, c))),)
+    refused = [
+        [mcg.Ear(a, ((b, c),))],  # no path from a
+        [mcg.Ear(a, ((a, c), (c, d)))],  # an even number of edges
+        [mcg.Ear(a, ((a, c), (b, c), (a, b)))],  # the ends are the same
+        [mcg.Ear(a, ((a, c), (c, d), (b, d)))],  # c and d are on the cycle
+        [mcg.Ear(a, ((a, b),))],  # an edge of the cycle
+        [mcg.Ear(a, ((a, c),))],  # in no perfect matching of what is there
+    ]
+    yield from ((graph, mcg.Ears((a, b), [round_a_b, tuple(step)])) for step in refused)
+    yield graph, mcg.Ears((a, b), [round_a_b])  # two edges are left
+    outside = mcg.Ear(a, ((a, c),))
+    yield graph, mcg.Ears((a, b), [(outside,)])  # an end that is not there
 
 
 class Words(unittest.TestCase):
@@ -78,14 +98,14 @@ class Words(unittest.TestCase):
 
     def test_ears(self):
         draw, seen = random.Random(52), {}
-        for graph in covered(52, 120):
-            for listed in wrong_ears(graph, draw):
-                found = mcg.check_ears(graph, listed)
-                if not found:
-                    with self.subTest(graph=graph, text=listed.to_text(graph)):
-                        key = self.compare("checkears", graph, found, ears=listed.to_text(graph))
-                        seen[key] = seen.get(key, 0) + 1
-        self.assertGreaterEqual(len({key[-1] for key in seen}), 6, sorted({key for key in seen}))
+        lists = [(graph, listed) for graph in covered(52, 30) for listed in wrong_ears(graph, draw)]
+        for graph, listed in [*lists, *each_ear_fault("abcd"), *each_ear_fault([None, "", ("x", 1), -7])]:
+            found = mcg.check_ears(graph, listed)
+            if not found:
+                with self.subTest(graph=graph, text=listed.to_text(graph)):
+                    key = self.compare("checkears", graph, found, ears=listed.to_text(graph))
+                    seen[key] = seen.get(key, 0) + 1
+        self.assertEqual({key[-1] for key in seen}, set("1234567"), seen)
         print(f"words of ears compared: {sum(seen.values())}")
 
     def test_moves(self):

@@ -6,6 +6,7 @@ from typing import Any, Dict, List, Mapping, Optional, Sequence, Tuple
 from ..comparisons import Comparison
 from ..moves import Move, Rotate, Switch
 from . import style
+from .decompositions import MOST_LEAVES
 from .dot import quoted
 from .graphs import Positions, named, places_of
 from .lists import add_names, add_sets
@@ -70,9 +71,11 @@ def moving(stages: Sequence[Stage], moves: Sequence[Move], at: int) -> List[Set]
     return found
 
 
-def strip(stages: Sequence[Stage], moves: Sequence[Move], names: Names) -> Scene:
+def strip(
+    stages: Sequence[Stage], moves: Sequence[Move], names: Names, widest: float = _WIDEST
+) -> Scene:
     """Returns all trees in outline from left to right, with an arrow and its words for each move; a
-    long list goes on in the next row."""
+    row that would be wider than `widest` goes on in the next one."""
     scene, x, y, deep = Scene(), 0.0, 0.0, 0.0
     for at, stage in enumerate(stages):
         hot = moving(stages, moves, at)
@@ -85,7 +88,7 @@ def strip(stages: Sequence[Stage], moves: Sequence[Move], names: Names) -> Scene
         if at + 1 < len(stages):
             head, words = told(moves[at], stage.tree, names)
             wide = max(words_width(words, 10) + 16, 90.0)
-            if x + wide + 30 + it.wide > _WIDEST:
+            if x + wide + 30 + it.wide > widest:
                 x, y, deep = 0.0, y + deep + 40, 0.0
             arrow(scene, (x + 8, y + 18), (x + 8 + wide, y + 18))
             scene.text(x + 8 + wide / 2, y + 8, head, 10.5, fill=style.RUST)
@@ -107,6 +110,7 @@ def draw_comparison(
     comparison: Comparison,
     *,
     pos: Optional[Positions] = None,
+    graphs: Optional[bool] = None,
     labels: Optional[Mapping[Any, object]] = None,
     title: str = "",
     ax: Optional[Any] = None,
@@ -115,7 +119,9 @@ def draw_comparison(
     tint and drawing; below them all trees between in outline, and an arrow for each move (at most
     40). Shores of one tree alone are rust, those of both are blue.
 
-    `pos`, `labels` and `ax` as for `draw`. Raises `ImportError` without NumPy and NetworkX.
+    With more than six leaves it shows for each tree the graph with each vertex lettered by its leaf,
+    and the tree in outline; `graphs=True` draws the graph at each node all the same. `pos`, `labels`
+    and `ax` as for `draw`. Raises `ImportError` without NumPy and NetworkX.
     """
     graph = comparison.first.graph
     plain = named(graph, labels)
@@ -127,10 +133,13 @@ def draw_comparison(
     listed += [shore for stage in stages for shore in stage.tree.shores()]
     names = names_of(listed, plain.order)
     places = places_of(graph, plain, pos, first.shores() + second.shores())
-    scene = both_trees(comparison, first, second, order, names, places)
-    row = strip(stages, comparison.moves, names) if comparison.moves else None
-    if row is not None:
+    if graphs or (graphs is None and len(order) <= MOST_LEAVES):
+        scene = both_trees(comparison, first, second, order, names, places)
+    else:
+        scene = both_maps(first, second, order, names, places)
+    if comparison.moves:
         low, wide = scene.box[3] + 16, scene.wide
+        row = strip(stages, comparison.moves, names, max(wide, _WIDEST))
         scene.line((scene.box[0], low), (scene.box[2], low), Pen(stroke=style.RULE, width=0.6))
         middle = scene.box[0] + (wide - row.wide) / 2
         scene.put(row, middle - row.box[0], low + 26 - row.box[1])
@@ -165,6 +174,21 @@ def both_trees(
     shores = sorted(set(first.shores() + second.shores()), key=lambda s: _number(names[s]))
     add_sets(scene, smaller_sets(shores, first.whole.order, names), shared.short)
     add_names(scene, shared.key)
+    return scene
+
+
+def both_maps(
+    first: PlainTree, second: PlainTree, order: Sequence[int], names: Names, places: List[Point]
+) -> Scene:
+    """Returns two trees with many leaves side by side: the graph lettered by the leaves of each, and
+    the tree in outline."""
+    odd, scene, x = set(first.shores()) ^ set(second.shores()), Scene(), 0.0
+    for tree, letters in ((first, range(len(order))), (second, order)):
+        tree.root.places = places
+        marks = leaf_marks(len(order), letters)
+        it: Scene = laid_out("maps").overview(tree, names, marks, odd)
+        scene.put(it, x - it.box[0], -it.box[1])
+        x += it.wide + _BETWEEN
     return scene
 
 

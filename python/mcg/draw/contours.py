@@ -1,63 +1,66 @@
 """Lines where a field on a grid is zero, and smooth paths through points."""
 from __future__ import annotations
 
-from typing import Dict, List, Sequence, Tuple
+from typing import Dict, List, Sequence
 
 import numpy as np
 
-from .layout.arrays import Array, Flags
+from .layout.arrays import Array, Flags, Integers
 from .scene import Steps
-
-_Node = Tuple[Tuple[int, int], Tuple[int, int]]
-_Links = Dict[_Node, Tuple[Tuple[float, float], List[_Node]]]
 
 
 def contours(xs: Array, ys: Array, value: Array) -> List[Array]:
     """Returns the lines where the field is zero, by marching squares; open ones end at the border.
     `value[j, i]` is the field at (xs[i], ys[j])."""
-    links: _Links = {}
+    number = np.arange(value.size).reshape(value.shape)
     above = value > 0
     ring = above[:-1, :-1].astype(int) + above[:-1, 1:] + above[1:, 1:] + above[1:, :-1]
-    for j, i in np.argwhere((ring > 0) & (ring < 4)).tolist():
-        cut = _cut(xs, ys, value, above, i, j)
-        for (a, p), (b, q) in zip(cut[::2], cut[1::2]):
-            links.setdefault(a, (p, []))[1].append(b)
-            links.setdefault(b, (q, []))[1].append(a)
-    return _walks(links)
+    j, i = np.nonzero((ring > 0) & (ring < 4))
+    # the sides of each square that the line may meet, in their order round it; those from one row
+    # to the next have higher numbers
+    level, upright = number, value.size + number
+    sides = np.stack([level[j, i], upright[j, i + 1], level[j + 1, i], upright[j, i]], 1)
+    around = (j, i), (j, i + 1), (j + 1, i + 1), (j + 1, i)
+    corners = np.stack([above[at] for at in around], 1)
+    met = corners != np.roll(corners, -1, 1)
+    middle = sum(value[at] for at in around) > 0
+    is_turned = met.all(1) & (corners[:, 0] != middle)
+    sides[is_turned] = np.roll(sides[is_turned], -1, 1)
+    return _walks(sides[met].reshape(-1, 2), _meetings(xs, ys, value))
 
 
-def _cut(
-    xs: Array, ys: Array, value: Array, above: Flags, i: int, j: int
-) -> List[Tuple[_Node, Tuple[float, float]]]:
-    """Where the line meets the sides of one square, those that belong together one after the
-    other."""
-    square = [(i, j), (i + 1, j), (i + 1, j + 1), (i, j + 1)]
-    found = []
-    for (a, b), (c, d) in zip(square, square[1:] + square[:1]):
-        if above[b, a] != above[d, c]:
-            part = float(value[b, a] / (value[b, a] - value[d, c]))
-            at = (float(xs[a] + part * (xs[c] - xs[a])), float(ys[b] + part * (ys[d] - ys[b])))
-            key = ((a, b), (c, d)) if (a, b) < (c, d) else ((c, d), (a, b))
-            found.append((key, at))
-    if len(found) == 4:
-        middle = value[j : j + 2, i : i + 2].sum() > 0
-        if bool(above[j, i]) != bool(middle):
-            found = found[1:] + found[:1]
+def _meetings(xs: Array, ys: Array, value: Array) -> Array:
+    """Where the line meets each side of the grid, if it does."""
+    found = np.zeros((2, *value.shape, 2))
+    found[0, :, :-1, 0] = xs[:-1] + _part(value[:, :-1], value[:, 1:]) * np.diff(xs)
+    found[0, :, :, 1] = ys[:, None]
+    found[1, :, :, 0] = xs
+    found[1, :-1, :, 1] = ys[:-1, None] + _part(value[:-1], value[1:]) * np.diff(ys)[:, None]
+    return found.reshape(-1, 2)
+
+
+def _part(start: Array, end: Array) -> Array:
+    """How far from the start the field is zero, as a part of the way to the end."""
+    found: Array = start / np.where(start == end, 1.0, start - end)
     return found
 
 
-def _walks(links: _Links) -> List[Array]:
-    """The lines, from their ends if they have some."""
+def _walks(pairs: Integers, places: Array) -> List[Array]:
+    """The lines of which each pair of sides is a piece, from their ends if they have some."""
+    links: Dict[int, List[int]] = {}
+    for one, other in pairs.tolist():
+        links.setdefault(one, []).append(other)
+        links.setdefault(other, []).append(one)
     found, seen = [], set()
-    for start in sorted(links, key=lambda node: len(links[node][1])):
-        walk: List[Tuple[float, float]] = []
+    for start in sorted(links, key=lambda side: len(links[side])):
+        walk: List[int] = []
         at = None if start in seen else start
         while at is not None:
             seen.add(at)
-            walk.append(links[at][0])
-            at = next((node for node in links[at][1] if node not in seen), None)
+            walk.append(at)
+            at = next((side for side in links[at] if side not in seen), None)
         if len(walk) > 6:
-            found.append(np.array(walk))
+            found.append(places[walk])
     return found
 
 
@@ -70,11 +73,13 @@ def smooth(line: Array, closed: bool = True, apart: float = 4.0, rounds: int = 2
     count = max(8, int(along[-1] / apart))
     where = np.linspace(0.0, along[-1], count, endpoint=not closed)
     q: Array = np.stack([np.interp(where, along, loop[:, k]) for k in (0, 1)], 1)
+    if closed:  # each round multiplies a wave along the line by the same number
+        wave = np.cos(2 * np.pi * np.arange(count // 2 + 1) / count) - 1
+        kept = ((1 + 0.5 * wave) * (1 - 0.515 * wave)) ** rounds
+        smoothed: Array = np.fft.irfft(np.fft.rfft(q, axis=0) * kept[:, None], count, axis=0)
+        return smoothed
     for factor in (0.5, -0.515) * rounds:
-        if closed:
-            q = q + factor * ((np.roll(q, 1, 0) + np.roll(q, -1, 0)) / 2 - q)
-        else:
-            q[1:-1] += factor * ((q[:-2] + q[2:]) / 2 - q[1:-1])
+        q[1:-1] += factor * ((q[:-2] + q[2:]) / 2 - q[1:-1])
     return q
 
 

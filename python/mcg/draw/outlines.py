@@ -2,12 +2,14 @@
 for a leaf. This needs no other package."""
 from __future__ import annotations
 
-from typing import Collection, Dict, Sequence
+from itertools import zip_longest
+from typing import Collection, Dict, List, Sequence, Tuple
 
 from . import style
 from .leaf_names import leaf_name
 from .nodes import LeafMark, Names, Node, PlainTree, Set
 from .scene import Pen, Run, Runs, Scene, plain_words
+from .style import Point
 
 _DOWN = 36.0
 _LINE = Pen(stroke=style.QUIET, width=style.LINK)
@@ -25,7 +27,7 @@ def outline(
     leaves below them, and `links` makes each node lead to #n and its path."""
     drawing = _Outline(names, marks, hot, captions, links)
     drawing.measure(tree.root)
-    drawing.lay(tree.root, 0.0, 0.0)
+    drawing.lay(tree.root, (0.0, 0.0))
     scene = Scene()
     scene.put(drawing.lines)
     scene.put(drawing.nodes)
@@ -45,29 +47,38 @@ class _Outline:
         self.captions, self.links = captions, links
         self.step = 40.0 if captions else 30.0
         self.lines, self.nodes = Scene(), Scene()
-        self.wide: Dict[Node, float] = {}
+        self.half: Dict[Node, float] = {}
 
-    def measure(self, node: Node) -> float:
-        wide = sum(self.measure(it) for it in node.below) if node.below else self.step
-        self.wide[node] = wide
-        return wide
+    def measure(self, node: Node) -> List[Tuple[float, float]]:
+        """Finds how far the nodes below a cut are from its middle, as near as the trees below them
+        allow. Returns how far the tree reaches to both sides at each depth; the caption of a leaf
+        takes the depth below it.
 
-    def lay(self, node: Node, left: float, y: float) -> float:
-        """Draws a node and what is below it; returns where its middle is."""
+        Source: E. M. Reingold and J. S. Tilford, "Tidier drawings of trees", IEEE Transactions on
+        Software Engineering 7 (1981).
+        """
         if not node.below:
-            x = left + self.step / 2
+            return [(0.0, 0.0)] * (2 if self.captions else 1)
+        kept, merged = map(self.measure, node.below)
+        overlap = max(right - left for (_, right), (left, _) in zip(kept, merged))
+        half = self.half[node] = (overlap + self.step) / 2
+        rows = [(0.0, 0.0)]
+        for one, other in zip_longest(kept, merged):
+            ends = [x - half for x in one or ()] + [x + half for x in other or ()]
+            rows.append((min(ends), max(ends)))
+        return rows
+
+    def lay(self, node: Node, place: Point) -> None:
+        """Draws a node and what is below it."""
+        x, y = place
+        if node.below:
+            self._cut(node, x, y)
+        else:
             self._leaf(node, x, y)
-            return x
-        kept, merged = node.below
-        ends = (
-            self.lay(kept, left, y + _DOWN),
-            self.lay(merged, left + self.wide[kept], y + _DOWN),
-        )
-        x = sum(ends) / 2
-        for end in ends:
-            self.lines.line((x, y), (end, y + _DOWN), _LINE)
-        self._cut(node, x, y)
-        return x
+        for side, below in zip((-1, 1), node.below):
+            end = x + side * self.half[node], y + _DOWN
+            self.lines.line(place, end, _LINE)
+            self.lay(below, end)
 
     def _open(self, node: Node, title: str) -> None:
         if self.links:

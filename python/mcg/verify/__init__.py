@@ -14,12 +14,14 @@ Each function takes the graph and a result of the function of `mcg` with the sam
     >>> edges = [("a", "b"), ("b", "c"), ("c", "d"), ("d", "a")]
     >>> mcg.verify.decompose(edges, mcg.decompose(edges))
 
-What is free is not compared: any tight cut decomposition passes `decompose`, whatever the order
-of choice was. `python -m mcg.verify GRAPH REPORT [FILES]` checks a report in a file.
+What is free is not compared: other valid ears, moves, maps and witnesses pass. `decompose` takes the
+order of choice, and without it any tight cut decomposition passes. `python -m mcg.verify [--order
+ORDER] GRAPH REPORT [FILES]` checks a report in a file: that of `decompose` must be the one that the
+order gives, or, where none is said, one that some picks give.
 
 Reports of `mcg6` are judged against their lists, line by line: `list_report` and `Judged`, and
-`python -m mcg.verify --list LIST REPORT COMMAND..`. There the order of choice counts too, since all
-candidates are found by their definition.
+`python -m mcg.verify --list LIST REPORT COMMAND..`. All candidates for a cut are found by their
+definition.
 """
 from .files import report
 from .lists import Judged, LineFault, list_report

@@ -1,9 +1,11 @@
-"""Checks a report of Mcg: python -m mcg.verify GRAPH REPORT [FILES], or for mcg6
+"""Checks a report of Mcg: python -m mcg.verify [--order ORDER] GRAPH REPORT [FILES], or for mcg6
 python -m mcg.verify --list LIST REPORT COMMAND..
 
 GRAPH is the graph file, or a graph in graph6 for analyse6. REPORT is what the command wrote, and
-FILES are the files that it read after the graph: none for analyse, decompose and ears, TREE for
-check, EARS for checkears, TREE1 TREE2 for compare and script, TREE MOVES for replay.
+FILES are the files that it read after the graph: none for analyse and ears, PICKS for decompose
+script, TREE for check, EARS for checkears, TREE1 TREE2 for compare and script, TREE MOVES for
+replay. ORDER is the order of choice of decompose: first, last or balanced. Without an order and
+picks, a report of decompose is right if some picks give it.
 
 LIST is a list of graphs, and COMMAND.. what `mcg6` was called with, without a file: kinds,
 `leaves last skip`, `select brick`; for encode, LIST is the graph file. Both files are read line by
@@ -14,10 +16,11 @@ Status 2: wrong arguments, or a file that cannot be read or is outside its forma
 """
 import sys
 from contextlib import ExitStack
-from typing import IO, List
+from typing import IO, List, Optional
 
 from ..errors import Error
 from ..labels import counted
+from ..properties import Order, order_word
 from . import Wrong, report
 from .lists import Judged, query_of
 
@@ -31,18 +34,21 @@ def _text(name: str) -> str:
 
 def main(names: List[str]) -> int:
     """Checks the report in these files, and returns the exit status."""
-    least = 4 if names[:1] == ["--list"] else 2
+    least = {"--list": 4, "--order": 4}.get(names[0] if names else "", 2)
     if len(names) < least or names[0] in ("-h", "--help"):
         print(__doc__.strip(), file=sys.stdout if names[:1] in (["-h"], ["--help"]) else sys.stderr)
         return 0 if names[:1] in (["-h"], ["--help"]) else 2
     try:
         if names[0] == "--list":
             return judge_list(names[1], names[2], names[3:])
-        command = report(*map(_text, names))
+        order: Optional[Order] = None
+        if names[0] == "--order":
+            order, names = order_word(names[1]), names[2:]
+        command = report(*map(_text, names), order=order)
     except Wrong as what:
         print(f"{names[1]}: wrong: {what}")
         return 1
-    except (Error, OSError) as why:
+    except (Error, OSError, ValueError) as why:
         print(f"mcg.verify: {why}", file=sys.stderr)
         return 2
     said = {"tree": "the refusal of a tree", "verdict": "the verdict"}.get(command, f"a report of {command}")

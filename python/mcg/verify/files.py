@@ -3,22 +3,23 @@ from __future__ import annotations
 
 import re
 from itertools import zip_longest
-from typing import Callable, Dict, List, Sequence, Tuple
+from typing import Callable, Dict, List, Optional, Sequence, Tuple
 
 from .. import report_texts
 from ..analysis import Analysis, verdict
 from ..comparisons import Comparison
-from ..decompositions import TreeCheck, refusal
+from ..decompositions import Picks, TreeCheck, refusal
 from ..ear_checks import EarsCheck
 from ..ear_lists import Ears
 from ..errors import BadText
 from ..graphs import Graph, is_graph6
 from ..moves import Moves
 from ..programs import understood
+from ..properties import Order
 from ..replays import Replay
 from ..report_texts import lines_of
 from ..trees import Decomposition
-from . import moves, stages, structure, trees
+from . import moves, orders, stages, structure, trees
 from .structure import Given, need
 
 # What a report begins with or has in it, the command that writes it, and its files after the graph.
@@ -48,31 +49,38 @@ def command_of(text: str) -> Tuple[str, List[str]]:
     )
 
 
-def report(graph_text: str, text: str, *files: str) -> str:
+def report(graph_text: str, text: str, *files: str, order: Optional[Order] = None) -> str:
     """Checks the text of a report on a graph file, and returns the command that it is from.
 
-    `files` are the texts of the files that the command read after the graph: none for `analyse`,
-    `decompose` and `ears`, the tree for `check`, the ears for `checkears`, both trees for
-    `compare` and `script`, the tree and the moves for `replay`. For a line `tree 1 refused ..`
-    the trees are due too. Every byte of the report is read: what passes is what docs/FORMATS.md
-    has, in its canonical form. Only whether an order or picks would have led to the tree of
-    `decompose` is not asked. Raises `Wrong`, and `BadGraph` or `BadText` for a text outside its
-    format.
+    `files` are the texts of the files that the command read after the graph: none for `analyse` and
+    `ears`, none or the picks for `decompose`, the tree for `check`, the ears for `checkears`, both
+    trees for `compare` and `script`, the tree and the moves for `replay`. For a line `tree 1
+    refused ..` the trees are due too. Every byte of the report is read: what passes is what
+    docs/FORMATS.md has, in its canonical form. A report of `decompose` passes if its `order` or the
+    picks give its tree; with neither, if some picks do. Raises `Wrong`, `BadGraph` or `BadText` for
+    a text outside its format, and `ValueError` for another order.
 
     >>> report("p mcg 2 1\\ne 1 2\\n", "t mcg 2\\nleaf\\nc leaf 1 brace\\nc block 1\\nc block 2\\n"
-    ...     "c edge 1 2 by 1\\nc leaves 1 bricks 0 braces 1\\n")
+    ...     "c edge 1 2 by 1\\nc leaves 1 bricks 0 braces 1\\n", order="last")
     'decompose'
     """
     command, due = command_of(text)
     if command == "tree":
         due = ["TREE1", "TREE2"][: int(text[len("tree ")])]
-    if len(files) < len(due) or (len(files) > len(due) and command not in ("tree", "verdict")):
+    most = {"tree": 2, "verdict": 2, "decompose": 1}.get(command, len(due))
+    if not len(due) <= len(files) <= most:
         raise BadText(
             f"a report of {command} is checked with the files {' '.join(due) or 'of the graph and the report alone'}"
         )
-    rows = CHECKS[command](Graph.from_text(graph_text), text, files)
+    if order is not None and command not in ("decompose", "verdict"):
+        raise ValueError(f"a report of {command} has no order")
+    graph = Graph.from_text(graph_text)
+    if command == "decompose":
+        rows = _decompose(graph, text, files, order)
+    else:
+        rows = CHECKS[command](graph, text, files)
     if command == "analyse" and is_graph6(graph_text):
-        rows.append(f"graph6 {Graph.from_text(graph_text).graph6()}")
+        rows.append(f"graph6 {graph.graph6()}")
     need(text.endswith("\n"), "the last line has no end")
     for number, (row, found) in enumerate(zip_longest(rows, lines_of(text)), 1):
         need(row == found, f"line {number} is to be {row!r}, and is {found!r}")
@@ -114,9 +122,19 @@ def _analyse(graph: Graph, text: str, _files: Sequence[str]) -> List[str]:
     return [*report_texts.analyse_lines(analysis), *_names(graph, "name")]
 
 
-def _decompose(graph: Graph, text: str, _files: Sequence[str]) -> List[str]:
+def _decompose(
+    graph: Graph, text: str, files: Sequence[str], order: Optional[Order]
+) -> List[str]:
     decomposition = Decomposition.from_text(text, graph)
-    trees.decompose(graph, decomposition)
+    tree = trees.decomposed(graph, decomposition)
+    if files and order is not None:
+        raise ValueError("decompose takes an order or picks, and not both")
+    if files:
+        orders.demand_order(*tree, Picks.from_text(files[0]))
+    elif order is not None:
+        orders.demand_order(*tree, order)
+    else:
+        orders.demand_picks(*tree)
     return [*report_texts.decompose_lines(decomposition), *_names(graph, "c name")]
 
 
@@ -168,7 +186,6 @@ def _replay(graph: Graph, text: str, files: Sequence[str]) -> List[str]:
 
 CHECKS: Dict[str, Callable[[Graph, str, Sequence[str]], List[str]]] = {
     "analyse": _analyse,
-    "decompose": _decompose,
     "check": _check,
     "ears": _ears,
     "checkears": _checkears,

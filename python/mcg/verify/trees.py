@@ -7,6 +7,7 @@ from ..decompositions import Refusal, TreeCheck
 from ..graphs import GraphLike
 from ..trees import Decomposition, Leaf, Tree, TreeLike, sides
 from .candidates import first_candidate
+from .orders import Chosen, demand_order
 from .places import Place
 from .structure import Given, Wrong, need, verdict
 
@@ -85,6 +86,18 @@ class Trees:
         yield from self._leaves(place.kept(shore), kept)
         yield from self._leaves(place.merged(shore), merged)
 
+    def cuts(self, node: Node) -> Iterator[Tuple[Place, int]]:
+        """Yields the contraction and the shore of each cut of a tree that has no fault, in preorder."""
+        yield from self._cuts_below(self.given.root, node)
+
+    def _cuts_below(self, place: Place, node: Node) -> Iterator[Tuple[Place, int]]:
+        place = self._known(place)
+        if node is not None:
+            shore, kept, merged = node
+            yield place, shore
+            yield from self._cuts_below(place.kept(shore), kept)
+            yield from self._cuts_below(place.merged(shore), merged)
+
     def fault(self, node: Node) -> Optional[Fault]:
         """Returns the first node in preorder that breaks a rule."""
         return self._fault(self.given.root, node, iter(range(1, 1 << 30)))
@@ -109,7 +122,7 @@ class Trees:
         if fault.why == 4:
             self._demand_matching(fault, refusal)
         elif fault.why == 5:
-            due = first_candidate(fault.place, self._edges(fault.place))
+            due = first_candidate(fault.place, self.edges(fault.place))
             need(self.given.bits(refusal.cut or ()) == due, "the cut of a leaf is not that of candidate 0")
         if refusal.path is not None:
             place = path_of(node, fault.node), None if fault.why == 5 else self.given.labels(fault.shore)
@@ -117,9 +130,9 @@ class Trees:
         has_shown = refusal.matching is not None, refusal.cut is not None
         need(has_shown == (fault.why == 4, fault.why == 5), "what shows a refusal")
 
-    def _edges(self, place: Place) -> List[Tuple[int, int]]:
-        """The edges of a contraction in the order of the format: those of the graph at the root, and
-        below it those of the simple graph."""
+    def edges(self, place: Place) -> List[Tuple[int, int]]:
+        """Returns the edges of a contraction in the order of the format: those of the graph at the
+        root, and below it those of the simple graph."""
         if place.blocks == self.given.root.blocks:
             return [(min(it), max(it)) for it in place.pairs]
         return [(a, b) for a, row in enumerate(place.simple.rows) for b in row if a < b]
@@ -153,13 +166,24 @@ def demand_derivation(trees: Trees, node: Node) -> None:
         raise Wrong(f"node {fault.node} breaks rule {fault.why}")
 
 
-def decompose(graph: GraphLike, decomposition: Decomposition) -> None:
+def decompose(graph: GraphLike, decomposition: Decomposition, order: Optional[Chosen] = None) -> None:
     """Checks that a decomposition is a tight cut decomposition of a matching covered graph, with
-    the right leaves. Any passes, whatever the order of choice was. Raises `Wrong`.
+    the right leaves. Raises `Wrong`.
+
+    With `order`, what `mcg.decompose` was given as its order, it must also be the decomposition
+    that this order gives. Without it any tight cut decomposition passes, `replay` makes others too.
 
     >>> import mcg
     >>> decompose("C~", mcg.decompose("C~"))
+    >>> decompose("E~rG", mcg.decompose("E~rG", "last"), "last")
     """
+    trees, node = decomposed(graph, decomposition)
+    if order is not None:
+        demand_order(trees, node, order)
+
+
+def decomposed(graph: GraphLike, decomposition: Decomposition) -> Tuple[Trees, Node]:
+    """Checks a decomposition, whatever its order of choice, and returns its tree. Raises `Wrong`."""
     given = Given(graph)
     need(given.is_covered, "the graph is not matching covered")
     trees, node = Trees(given), node_of(given, decomposition)
@@ -169,6 +193,7 @@ def decompose(graph: GraphLike, decomposition: Decomposition) -> None:
     for number, (place, leaf) in enumerate(zip(places, decomposition.leaves), 1):
         need(leaf.kind == trees.kind(place), f"the kind of leaf {number}")
         _leaf(given, place, leaf, number)
+    return trees, node
 
 
 def _leaf(given: Given, place: Place, leaf: Leaf, number: int) -> None:
