@@ -1,5 +1,5 @@
 -- The lines on the structure of a matching covered graph, as functions of the values in them.
--- Stated by: report_text.
+-- Stated by: report_text. Used by: theorems.
 use Rattle.std.specs.Prelude.{ℕ, List, [], ◌∷◌, ◌++◌, length, codes, Option, Some, None, decimal}
 use Rattle.graph_core.specs.declared.ends.Ends.{Ends}
 use Rattle.graph_core.specs.declared.verdict.Kind.{Kind}

@@ -1,6 +1,6 @@
 -- Words that lines of several reports share: yes and no, reasons why a graph is not matching
 -- covered, kinds of graphs and of leaves, and counts of leaves.
--- Stated by: report_text. Used by: mcg6_lines.
+-- Stated by: report_text. Used by: mcg6_lines, theorems.
 use Rattle.std.specs.Prelude.{List, ℕ, Bool, ◌++◌, if◌then◌else◌, codes, decimal}
 use Rattle.graph_core.specs.declared.verdict.Kind.{Kind}
 use Rattle.graph_core.specs.declared.verdict.Kind.TheVariants.{Brace, Brick, Composite}

@@ -45,6 +45,7 @@ pub mod FirstSeparated
 pub mod HetyeiEars
 pub mod HetyeiSides
 pub mod JoinedMatchings
+pub mod KindsRead
 pub mod LaminarFamilies
 pub mod LeafKindLists
 pub mod LinesTold

@@ -17,7 +17,7 @@ use Rattle.theorems.specs.Outcomes.{ListsSet, words_behind}
 
 -- numbers that are small are words, and are read back
 module _ (bound : ℕ) (small : bound < 10 ^ 9) where
-  decimal-words : (xs : List ℕ) → ((v : ℕ) → mem xs v ≡ true → v ≤ bound) → AreWords (map decimal xs)
+  pub decimal-words : (xs : List ℕ) → ((v : ℕ) → mem xs v ≡ true → v ≤ bound) → AreWords (map decimal xs)
   decimal-words [] each = tt
   decimal-words (x ∷ xs) each = (is_word-decimal x (let l = each x (or_left (x == x) (mem xs x) (eq-eqb x x refl)) in omega arith), decimal-words xs (λ v i. each v (or_right (x == v) (mem xs v) i)))
 
@@ -34,21 +34,21 @@ module _ (bound : ℕ) (small : bound < 10 ^ 9) where
       let others = decimal-values xs (λ v i. each v (or_right (x == v) (mem xs v) i)) in
       ap (λ n. n ∷ map value_of (map decimal xs)) first ∙ ap (λ ns. x ∷ ns) others
 
-  decimals-read : (xs : List ℕ) → ((v : ℕ) → mem xs v ≡ true → v ≤ bound) → numbers_of (map decimal xs) ≡ Some xs
+  pub decimals-read : (xs : List ℕ) → ((v : ℕ) → mem xs v ≡ true → v ≤ bound) → numbers_of (map decimal xs) ≡ Some xs
   decimals-read xs each = ap (λ b. cond b (Some (map value_of (map decimal xs))) None) (decimal-numbers xs each) ∙ ap (λ ns. Some ns) (decimal-values xs each)
 
 -- lines of the report as written words
-abbrev yes_word : Bool → List ℕ
+abbrev pub yes_word : Bool → List ℕ
 yes_word holds = cond holds (codes "yes") (codes "no")
 
 numbers-spaced : (ns : List ℕ) → numbers_text ns ≡ spaced (map decimal ns)
 numbers-spaced [] = refl
 numbers-spaced (n ∷ ns) = ap (λ text. 32 ∷ (decimal n ++ text)) (numbers-spaced ns)
 
-list-written : (word : List ℕ) (ns : List ℕ) → list_line word ns ≡ written ((word ∷ map decimal ns) ∷ [])
+pub list-written : (word : List ℕ) (ns : List ℕ) → list_line word ns ≡ written ((word ∷ map decimal ns) ∷ [])
 list-written word ns = grind (arith, numbers-spaced, append_assoc, spaced, unwords-spaced)
 
-count-written : (word : List ℕ) (n : ℕ) → count_line word n ≡ written ((word ∷ decimal n ∷ []) ∷ [])
+pub count-written : (word : List ℕ) (n : ℕ) → count_line word n ≡ written ((word ∷ decimal n ∷ []) ∷ [])
 count-written word n = ap (λ text. text ++ codes "\n") (append_assoc word (codes " ") (decimal n))
 
 graph-written : (n m : ℕ) → size_line n m ≡ written ((codes "graph" ∷ decimal n ∷ decimal m ∷ []) ∷ [])
@@ -62,34 +62,34 @@ next-written : (before : List (List (List ℕ))) (words : List (List ℕ)) (text
 next-written before words text line first second = ap (λ t. t ++ line) first ∙ ap (λ t. written before ++ t) second ∙ sym (written-append before (words ∷ []))
 
 module _ (lines : AnalysisLines) where
-  abbrev graph_words : List (List ℕ)
+  abbrev pub graph_words : List (List ℕ)
   graph_words = codes "graph" ∷ decimal lines.order ∷ decimal lines.size ∷ []
 
-  abbrev components_words : List (List ℕ)
+  abbrev pub components_words : List (List ℕ)
   components_words = codes "components" ∷ decimal lines.components ∷ []
 
-  abbrev bipartite_words : List (List ℕ)
+  abbrev pub bipartite_words : List (List ℕ)
   bipartite_words = codes "bipartite" ∷ yes_word lines.bipartite ∷ []
 
-  abbrev matching_words : List (List ℕ)
+  abbrev pub matching_words : List (List ℕ)
   matching_words = codes "matching" ∷ decimal lines.matching ∷ []
 
-  abbrev deficiency_words : List (List ℕ)
+  abbrev pub deficiency_words : List (List ℕ)
   deficiency_words = codes "deficiency" ∷ decimal lines.deficiency ∷ []
 
-  abbrev number_lines : List (List (List ℕ))
+  abbrev pub number_lines : List (List (List ℕ))
   number_lines = graph_words ∷ components_words ∷ bipartite_words ∷ matching_words ∷ deficiency_words ∷ []
 
-  abbrev d_words : List (List ℕ)
+  abbrev pub d_words : List (List ℕ)
   d_words = codes "D" ∷ map decimal lines.d
 
-  abbrev a_words : List (List ℕ)
+  abbrev pub a_words : List (List ℕ)
   a_words = codes "A" ∷ map decimal lines.a
 
-  abbrev c_words : List (List ℕ)
+  abbrev pub c_words : List (List ℕ)
   c_words = codes "C" ∷ map decimal lines.c
 
-  abbrev first_lines : List (List (List ℕ))
+  abbrev pub first_lines : List (List (List ℕ))
   first_lines = number_lines ++ d_words ∷ a_words ∷ c_words ∷ []
 
   numbers-written : numbers_told lines ≡ written number_lines
@@ -100,7 +100,7 @@ module _ (lines : AnalysisLines) where
       let d = next-written (graph_words ∷ components_words ∷ bipartite_words ∷ []) matching_words (graph_lines lines) (matching_line lines.matching) c (count-written (codes "matching") lines.matching) in
       next-written (graph_words ∷ components_words ∷ bipartite_words ∷ matching_words ∷ []) deficiency_words (graph_lines lines ++ matching_line lines.matching) (deficiency_line lines.deficiency) d (count-written (codes "deficiency") lines.deficiency)
 
-  sets-written : with_three_sets (numbers_told lines) lines ≡ written first_lines
+  pub sets-written : with_three_sets (numbers_told lines) lines ≡ written first_lines
   sets-written =
       let d = next-written number_lines d_words (numbers_told lines) (list_line (codes "D") lines.d) numbers-written (list-written (codes "D") lines.d) in
       let a = next-written (number_lines ++ d_words ∷ []) a_words (numbers_told lines ++ list_line (codes "D") lines.d) (list_line (codes "A") lines.a) d (list-written (codes "A") lines.a) in
@@ -137,11 +137,11 @@ module _ (word : List ℕ) where
   pass : (words : List (List ℕ)) (rest : List (List ℕ)) → AreWords words → begin_with words (word ∷ []) ≡ false → words_behind word (unwords words ∷ rest) ≡ words_behind word rest
   pass words rest are other = grind (arith, words_of-unwords)
 
-  past : (lines : List (List (List ℕ))) (rest : List (List ℕ)) → AllByRecursion AreWords lines → AllByRecursion (λ words. begin_with words (word ∷ []) ≡ false) lines → words_behind word (map unwords lines ++ rest) ≡ words_behind word rest
+  pub past : (lines : List (List (List ℕ))) (rest : List (List ℕ)) → AllByRecursion AreWords lines → AllByRecursion (λ words. begin_with words (word ∷ []) ≡ false) lines → words_behind word (map unwords lines ++ rest) ≡ words_behind word rest
   past [] rest are other = refl
   past (words ∷ lines) rest are other = pass words (map unwords lines ++ rest) are.0 other.0 ∙ past lines rest are.1 other.1
 
-  take_line : (words : List (List ℕ)) (rest : List (List ℕ)) → AreWords words → begin_with words (word ∷ []) ≡ true → words_behind word (unwords words ∷ rest) ≡ Some (drop 1 words)
+  pub take_line : (words : List (List ℕ)) (rest : List (List ℕ)) → AreWords words → begin_with words (word ∷ []) ≡ true → words_behind word (unwords words ∷ rest) ≡ Some (drop 1 words)
   take_line words rest are this = grind (arith, words_of-unwords)
 
 module _ (g : Graph) (read : IsRead g) (lines : AnalysisLines) (right : IsAnalysis g lines) (names : Option (List (List ℕ))) (output : List ℕ) (told : output ≡ with_given_names (analysis_text lines) names false) where
@@ -202,6 +202,9 @@ module _ (g : Graph) (read : IsRead g) (lines : AnalysisLines) (right : IsAnalys
   numbers-words : AllByRecursion AreWords (number_lines lines)
   numbers-words = (graph-words, (components-words, (yes-words lines.bipartite, (matching-words, (deficiency-words, tt)))))
 
+  pub first-words : AllByRecursion AreWords (first_lines lines)
+  first-words = (graph-words, (components-words, (yes-words lines.bipartite, (matching-words, (deficiency-words, (d-words, (a-words, (c-words, tt))))))))
+
   begins : BeginsSo lines output
   begins = let b = names-begin lines names in (b.0, told ∙ b.1)
 
@@ -212,7 +215,7 @@ module _ (g : Graph) (read : IsRead g) (lines : AnalysisLines) (right : IsAnalys
   unfolding tail
   cut =
       ap lines_of begins.1 ∙ lines_of-append (written (first_lines lines)) begins.0 (is_closed-unlines (map unwords (first_lines lines)))
-      ∙ ap (λ ls. ls ++ lines_of begins.0) (lines_of-written (first_lines lines) (graph-words, (components-words, (yes-words lines.bipartite, (matching-words, (deficiency-words, (d-words, (a-words, (c-words, tt)))))))))
+      ∙ ap (λ ls. ls ++ lines_of begins.0) (lines_of-written (first_lines lines) first-words)
 
   listed : (word xs : List ℕ) (P : ℕ → Type 0) → Lists g.order xs P → words_behind word (lines_of output) ≡ Some (map decimal xs) → ListsSet g.order output word P
   listed word xs P lists line = record { words = map decimal xs; line = line; numbers = xs; read = decimals-read 2048 (few 2048 (omega arith)) xs (small-vertices xs P lists); lists = lists }

@@ -33,6 +33,7 @@ use Rattle.bench_top.proofs.ReadGraphs.{HasGraph, IsRead}
 use Rattle.bench_top.proofs.Completeness.{done-given}
 use Rattle.bench_top.proofs.TextsStand.{stands-ears}
 use Rattle.theorems.proofs.DisjointEars.{list_disjoint}
+use Rattle.theorems.proofs.KindsRead.{kind-read}
 use Rattle.theorems.proofs.PlainDecompositions.{pairing-words, tree-words}
 use Rattle.theorems.proofs.SetsRead.{a-read, c-read, d-read}
 use Rattle.theorems.specs.Outcomes.{TellsDecomposition, TellsEars, TellsKind, TellsPairing, TellsScript, TellsSets}
@@ -107,6 +108,7 @@ told-kind files graph named status output held cov gives =
           (λ q. k.1 (q.0, (brick_or_not named.graph is cov q.0).1 (q.1, q.2))),
         );
         composite = composite-kind named.graph s.0.kind s.2.kind;
+        says = kind-read named.graph read read.ends cov r.lines r.right named.names output r.text s.0 s.1 s.2;
         text = r.text;
       },
     )

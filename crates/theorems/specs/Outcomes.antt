@@ -8,6 +8,7 @@ use Rattle.std.specs.Option.{ForSome}
 use Rattle.bench_top.specs.from_outside.Common.{Answer, AnswersInTurn, OpenState, PrintState, named_texts}
 use Rattle.tree_check.specs.from_counting.Common.{Lists, mem}
 use Rattle.graph_core.specs.Common.{InA, InC, InD, Graph, IsBipartite, size, singles, IsBicritical, IsCutPair, HasOnlyTrivialTightCuts, IsNontrivial, IsTight, IsWithinLimits}
+use Rattle.graph_core.specs.declared.verdict.Kind.{Kind}
 use Rattle.graph_core.specs.declared.verdict.Kind.TheVariants.{Brace, Brick, Composite}
 use Rattle.graph_text.specs.Common.{NamedGraph, AreNames, either_version}
 use Rattle.tree_core.specs.Common.{IsDerivation, IsTightShore, PlainLeafMap, leaf_at, map_at, leaves, PlainMove, TurnsThrough, Shape, shores}
@@ -17,7 +18,7 @@ use Rattle.tree_check.specs.from_move_laws.Common.{image}
 use Rattle.move_text.specs.Common.{move_format}
 use Rattle.ear_text.specs.from_ear_core.Common.{IsEarList, IsSingle, IsUnrefinable, PlainEars, TakesSingles}
 use Rattle.ear_text.specs.EarFormat.{ear_format}
-use Rattle.report_text.specs.Common.{analysis_text, pairing_text}
+use Rattle.report_text.specs.Common.{analysis_text, kind_word, pairing_text, shore_of}
 use Rattle.report_text.specs.declared.analyses.AnalysisLines.{AnalysisLines}
 use Rattle.report_text.specs.declared.structures.Structure.{Structure}
 use Rattle.bench_tasks.specs.Common.{pick_file}
@@ -75,10 +76,17 @@ pub record TellsPairing (g : Graph) (s t : Shape) (output : List ℕ) : Type 0 w
   pub turns : TurnsThrough g s moves t
   pub text : output ≡ pairing_text moves (map_lines_of 0 (leaves g.order s) maps)
 
--- the output of `analyse` says the kind of a matching covered graph: a brace is bipartite and a
--- brick is not, and neither has a nontrivial tight cut; a brick is a graph that is not bipartite,
--- is bicritical and has no cut pair (Edmonds, Lovász and Pulleyblank); a composite graph is shown
--- by the shore of a nontrivial tight cut
+-- the first line of the text that begins with the word `kind` has behind it the word of the kind, and
+-- the numbers of the shore that comes with it, if one does
+pub record SaysKind (text : List ℕ) (kind : Kind) : Type 0 where
+  pub numbers : List (List ℕ)
+  pub line : words_behind (codes "kind") (text_lines text) ≡ Some (kind_word kind ∷ numbers)
+  pub read : numbers_of numbers ≡ Some (shore_of kind)
+
+-- the output of `analyse` says the kind of a matching covered graph in its line `kind`: a brace is
+-- bipartite and a brick is not, and neither has a nontrivial tight cut; a brick is a graph that is
+-- not bipartite, is bicritical and has no cut pair (Edmonds, Lovász and Pulleyblank); a composite
+-- graph is shown by the shore of a nontrivial tight cut
 pub record TellsKind (named : NamedGraph) (output : List ℕ) : Type 0 where
   pub lines : AnalysisLines
   pub structure : Structure
@@ -87,6 +95,7 @@ pub record TellsKind (named : NamedGraph) (output : List ℕ) : Type 0 where
   pub brick : (structure.kind ≡ Brick) ↔ ((¬ IsBipartite named.graph) × HasOnlyTrivialTightCuts named.graph)
   pub bicritical : (structure.kind ≡ Brick) ↔ ((¬ IsBipartite named.graph) × IsBicritical named.graph × ((u v : ℕ) → ¬ IsCutPair named.graph u v))
   pub composite : (x : List ℕ) → structure.kind ≡ Composite x → IsTight named.graph (mem x) × IsNontrivial named.graph.order (mem x)
+  pub says : SaysKind output structure.kind
   pub text : output ≡ with_given_names (analysis_text lines) named.names false
 
 -- the output of `ears` tells an ear decomposition, with two ears at once only where neither of them
