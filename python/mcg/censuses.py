@@ -13,9 +13,9 @@ from .census_rows import Row, bad_row, rows_of
 from .errors import LIMIT, BadText
 from .sessions import MOST_LINE
 
-# A part of a list is written at a time. The first has so many lines, none is meant to have fewer than
-# so many, and none has more than so many; while one takes less than so
-# many seconds, the next is twice as long; after one that takes more than so many, half as long.
+# A part of a list is written at a time, of FIRST lines at first. After a part that took less than SHORT
+# seconds the next has twice as many, but at most MOST; after one that took more than LONG, half as many,
+# but at least LEAST.
 FIRST, LEAST, MOST, SHORT, LONG = 64, 16, 8_192, 1.0, 10.0
 
 # A part of a list is closed if its lines come so slowly.
