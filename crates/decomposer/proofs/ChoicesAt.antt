@@ -1,11 +1,14 @@
--- The candidates at a place of a graph are a choice in this graph; and a tree that one rule picks is
--- one that every wider rule picks.
-use Rattle.graph_core.proofs.from_counting.Common.{◌≡◌, ℕ, ◌+◌, ◌^◌, ◌<◌, ◌≤◌, List, length, map, All, ap, arith, complement, count, count_le, get_or, get_or-map, length-map, mem, sym, subst}
+-- The candidates at a place of a graph are a choice in this graph; a tree that one rule picks is one
+-- that every wider rule picks; and so is one that a function picks which follows a rule.
+use Rattle.std.specs.Borrow.{Bor}
+use Rattle.std.specs.Prelude.{IfOk, Result}
+use Rattle.graph_core.proofs.from_counting.Common.{◌≡◌, ℕ, ◌+◌, ◌^◌, ◌<◌, ◌≤◌, List, length, map, All, IfOk-weaker, ap, arith, complement, count, count_le, get_or, get_or-map, length-map, mem, sym, subst}
 use Rattle.graph_core.proofs.Common.{Graph, blocks_in, singles}
 use Rattle.tight_cuts.specs.Common.{Candidate, IsCandidateAt, candidate_of}
 use Rattle.tight_cuts.specs.declared.candidate.Candidate.{Candidate as StoredCandidate}
-use Rattle.tree_core.proofs.Common.{Shape, cut, cut_count, kept_at, leaf, merged_at}
-use Rattle.decomposer.specs.Common.{IsChoice, IsPicked, IsPickedAt, IsStoredIn}
+use Rattle.tree_core.proofs.Common.{Shape, cut, cut_count, kept_at, leaf, merged_at, shape_of}
+use Rattle.tree_core.specs.declared.tree.Tree.{Tree}
+use Rattle.decomposer.specs.Common.{IsChoice, IsPicked, IsPickedAt, IsStoredIn, PicksReturned}
 
 -- a candidate at a place with at most 128 blocks is one that code can hold
 stored-at : (g : Graph) (p : List (List ℕ)) → length p ≤ 128 → (c : StoredCandidate) → IsCandidateAt g p (candidate_of c) → IsStoredIn g.order c
@@ -44,3 +47,13 @@ picked-wider_at picks wider is_wider g p k (cut x kept merged) is = (
 pub picked-wider : (picks wider : List Candidate → ℕ → ℕ → Type 0) → ((list : List Candidate) (k place : ℕ) → picks list k place → wider list k place) →
     (g : Graph) (t : Shape) → IsPicked picks g t → IsPicked wider g t
 picked-wider picks wider is_wider g t is = picked-wider_at picks wider is_wider g (singles g.order) 0 t is
+
+-- a function follows a rule if at each choice the rule picks each place that the function may return;
+-- then the tree of the function is one of the rule
+pub picked-follows : {E : Type 0} (r : Result Tree E) (g : Graph) (post : Bor (List StoredCandidate) → ℕ → ℕ → Type 0) (rule : List Candidate → ℕ → ℕ → Type 0) →
+    ((shown : Bor (List StoredCandidate)) (cuts place : ℕ) → IsChoice g.order shown.now cuts → post shown cuts place → rule (map candidate_of shown.now) cuts place) →
+    IfOk r (λ t. IsPicked (PicksReturned g.order post) g (shape_of t)) → IfOk r (λ t. IsPicked rule g (shape_of t))
+picked-follows r g post rule follows =
+    IfOk-weaker r (λ (t : Tree). IsPicked (PicksReturned g.order post) g (shape_of t)) (λ (t : Tree). IsPicked rule g (shape_of t))
+    (λ t. picked-wider (PicksReturned g.order post) rule
+    (λ list k place is. subst (λ (cs : List Candidate). rule cs k place) is.shows (follows is.shown k place is.choice is.returned)) g (shape_of t))

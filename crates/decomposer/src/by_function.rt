@@ -1,5 +1,5 @@
 //! Orders of functions: of a closure that is lent, and of one that a box keeps.
-ghost use Rattle.std.specs.Prelude.{◌≡◌, ◌<◌, ℕ, All, IfOk, Err, length};
+ghost use Rattle.std.specs.Prelude.{◌≡◌, ◌<◌, ◌^◌, ℕ, All, IfOk, Err, length};
 ghost use Rattle.graph_core.specs.Common.{IsCovered, IsReason, reason_of};
 ghost use Rattle.tree_core.specs.Common.{IsDerivation, shape_of};
 ghost use Rattle.decomposer.specs.Common.{IsChoice, IsPicked, IsStoredIn, PicksReturned};
@@ -88,12 +88,21 @@ impl ByFunction {
     }
 }
 
+// The law that a number fits its type. It does nothing.
+fn fits(number: u32)
+    ensures { number < 2 ^ 32 }
+{
+    let _ = number;
+}
+
 // The law that candidates are such as code can hold. At run time it only walks through the list.
 fn are_stored(list: &[Candidate])
     ensures { All (IsStoredIn MOST_VERTICES) list.now }
 {
     for candidate in list {
         candidate.shore.rises();
+        fits(candidate.inside);
+        fits(candidate.outside);
     }
 }
 

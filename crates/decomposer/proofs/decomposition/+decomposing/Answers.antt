@@ -1,4 +1,4 @@
-use Rattle.std.proofs.Common.{ap, length, arith, rules}
+use Rattle.std.proofs.Common.{ap, arith, rules}
 use Rattle.tree_core.proofs.Common.{cut_count, shape_of, blocks-below}
 use Rattle.decomposer.proofs.Picking.{cut-finds}
 use Rattle.decomposer.proofs.decomposition.+decomposing.Goals as goal

@@ -1,4 +1,4 @@
-use Rattle.graph_core.proofs.from_counting.Common.{ℕ, All, List, [], ap, sym, subst, ◌∙◌, slice_get, unwrap_or, Option, eqb-true, arith, nil_from_length, none-some}
+use Rattle.graph_core.proofs.from_counting.Common.{ℕ, All, List, [], ap, sym, subst, ◌∙◌, slice_get, unwrap_or, Option, eqb-true, arith, nil_from_length, none-some, rules}
 use Rattle.tight_cuts.specs.Common.{Candidate, IsCandidateAt, candidate_of}
 use Rattle.tree_core.proofs.Common.{IsCutAt}
 use Rattle.decomposer.proofs.ChoicesAt.{choice-at}
