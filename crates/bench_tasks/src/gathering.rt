@@ -1,23 +1,34 @@
 //! The task that the files of a command make of it.
-ghost use Rattle.std.specs.Prelude.{IfOk};
-ghost use Rattle.bench_tasks.specs.Common.{GathersAnswered, asked, file_names, loaded, Loads, task_of, ReadsAs, IsTaskOf};
+ghost use Rattle.std.specs.Prelude.{IfErr, IfOk};
+ghost use Rattle.bench_tasks.specs.Common.{CarriesFile, CarriesFirstSizes, GathersAnswered, asked, file_names, files_of, loaded, Loads, task_of, ReadsAs, IsTaskOf};
 
 use crate::command::Command;
 use crate::formats::{Graph6File, GraphFile};
 use crate::loading::{load_ears, load_first, load_moves, load_picks, load_tree, load_trees};
 use crate::stop::Stop;
 use crate::tasks::Task;
-use outside::Shelf;
+use outside::Explain;
 use std::alloc::Global;
 
 /// Reads and parses the files of the command, in the order of the words, up to the first that
-/// stops it.
-pub fn gather<S: Shelf>(alloc: Global, command: Command<'_>, shelf: &mut S) -> Result<Task, Stop>
+/// stops it. The stop has what the loader knows of this file: its bytes are those that its read
+/// returned, so they take no memory of their own.
+pub fn gather<'a, S: Explain>(
+    alloc: Global,
+    command: Command<'a>,
+    shelf: &mut S,
+) -> Result<Task, Stop<'a>>
     ensures loads { Loads S.files S.steady S.faults task_of
         (λ files. loaded files (asked command.entry))
         result shelf.old shelf.new }
     ensures reads { ReadsAs S.reads (file_names (asked command.entry)) result shelf.old shelf.new }
     ensures answered { GathersAnswered S.reads (asked command.entry) result shelf.old shelf.new }
+    // A stop carries the file of the command that stopped it, and why it could not be read.
+    ensures carries { IfErr result
+        (CarriesFile (files_of (asked command.entry)) (S.reason shelf.new)) }
+    // The sizes that it carries are those of the graph that the first file stands for.
+    ensures sized { IfErr result
+        (CarriesFirstSizes S.reads (file_names (asked command.entry)) shelf.old) }
     ensures asked { IfOk result (λ task. IsTaskOf (asked command.entry) (task_of task)) }
 {
     match command {

@@ -7,25 +7,27 @@ use crate::ending::RunEnding;
 use crate::performing::perform;
 use bench_reports::bench_outcomes::Status;
 use bench_reports::bench_tasks::command_of;
-use outside::{Shelf, Sink};
+use outside::{Explain, Sink};
 use std::alloc::Global;
 
 /// Does what the words ask for, as `run` does, and returns beside the status which file stopped it,
-/// or why the input was refused.
+/// with what is known of this file, or why the input was refused.
 ///
 /// What it makes of the shelf and the sink is `RunsTo`: all that `run` makes of them (`Runs`), and
-/// seven facts more. The stop is what the files hold (`stops`), the files up to it are those that
-/// were read (`stops_after`), a bad file is the one that the written line reports (`reported`), and
+/// ten facts more. The stop is what the files hold (`stops`), the files up to it are those that
+/// were read (`stops_after`), it has the file at its place in the words, and why this file could not
+/// be read (`carries`), or the bytes that its read returned (`carries_bytes`) and the sizes of the
+/// graph that it is for (`carries_graph`), a bad file is the one that the written line reports (`reported`), and
 /// a failed read has its file (`unread_file`). There is a refusal exactly if the status is Negative
 /// (`is_refused`), it is the one that the written line reports (`reported_refusal`), and the place
 /// that it names is that of the fault in what the files hold (`placed`).
-pub fn run_ending<S: Shelf, K: Sink>(
+pub fn run_ending<'a, S: Explain, K: Sink>(
     alloc: Global,
-    words: &[String],
+    words: &'a [String],
     shelf: &mut S,
     sink: &mut K,
-) -> RunEnding
-    ensures { RunsTo S.files S.steady S.faults S.reads K.written K.writes K.faults
+) -> RunEnding<'a>
+    ensures { RunsTo S.files S.steady S.faults S.reads S.reason K.written K.writes K.faults
         (command_of (map string_bytes words.now)) result.status result.stop result.refusal
         shelf.old shelf.new sink.old sink.new }
 {
@@ -46,7 +48,7 @@ pub fn run_ending<S: Shelf, K: Sink>(
 /// status, its cause. `outcome` ties the words, the files, the status and the output together:
 /// `CommandGives` has one case for each command and cites the definitions of `graph_core` and of
 /// the crates above it.
-pub fn run<S: Shelf, K: Sink>(
+pub fn run<S: Explain, K: Sink>(
     alloc: Global,
     words: &[String],
     shelf: &mut S,

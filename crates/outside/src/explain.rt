@@ -25,6 +25,8 @@ pub enum FailureReason {
     Socket,
     /// Too many files are open.
     ManyOpen,
+    /// The system has no memory to open or read it.
+    NoMemory,
     /// Something else went wrong, such as an error of the device.
     Other,
 }
