@@ -13,6 +13,7 @@
 #![tactic(auto)]
 
 mod command;
+mod file_sets;
 mod files;
 mod formats;
 mod gathering;

@@ -10,7 +10,7 @@ use bench_reports::bench_outcomes::{Report, Status};
 use bench_reports::bench_tasks::{Command, Stop, Task, gather};
 use bench_reports::judge;
 use mcg6_lines::report_text::bad_input;
-use outside::{Explain, Sink, SinkFailed, emit};
+use outside::{Reasons, Shelf, Sink, SinkFailed, emit};
 use std::alloc::Global;
 
 // What was made of the files of a command: the report, or the status where there is none, and why
@@ -86,17 +86,18 @@ fn report_on<'a>(alloc: Global, gathered: Result<Task, Stop<'a>>) -> Judged<'a>
 
 /// Does the command: reads its files, makes the whole report in memory, and writes it. What it
 /// makes of the shelf and the sink is `RunsTo`, at the row of the command.
-pub fn perform<'a, S: Explain, K: Sink>(
+pub fn perform<'a, R: Reasons<S>, S: Shelf, K: Sink>(
     alloc: Global,
     command: Command<'a>,
+    reasons: &R,
     shelf: &mut S,
     sink: &mut K,
 ) -> RunEnding<'a>
-    ensures { RunsTo S.files S.steady S.faults S.reads S.reason K.written K.writes K.faults
+    ensures { RunsTo S.files S.steady S.faults S.reads R.reason K.written K.writes K.faults
         (Some (asked command.entry)) result.status result.stop result.refusal
         shelf.old shelf.new sink.old sink.new }
 {
-    let gathered = gather(alloc, command, shelf);
+    let gathered = gather(alloc, command, reasons, shelf);
     let Judged { report, stop } = report_on(alloc, gathered);
     match report {
         Ok(report) => match emit(sink, &report.bytes) {

@@ -43,7 +43,7 @@ pub use count_sink::CountSink;
 pub use dir_shelf::DirShelf;
 pub use edge::TracedReader;
 pub use emitting::emit;
-pub use explain::{Explain, FailureReason};
+pub use explain::{Explain, Explained, FailureReason, Reasons, Unexplained};
 pub use given::Given;
 pub use in_source::InSource;
 pub use inlet::Inlet;

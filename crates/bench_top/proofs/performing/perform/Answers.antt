@@ -34,7 +34,7 @@ returns-in-Ok-emit g c =
     let others = not-reported report.status made.reported in
     let now = subst (λ (l : List ℕ). g.K.Sink.written c.emit.new.sink ≡ appended (g.K.Sink.written c.args.sink.now) l) c.deref.ensures.value c.in-Ok-emit.ensures.ok in
     rw c.stop_of-stop.ensures
-    (performed g.S.Shelf.files g.S.Shelf.steady g.S.Shelf.faults g.S.Shelf.reads g.S.Explain.reason g.K.Sink.written g.K.Sink.writes g.K.Sink.faults (asked c.args.command) got.result c.args.shelf.now got.new.shelf
+    (performed g.S.Shelf.files g.S.Shelf.steady g.S.Shelf.faults g.S.Shelf.reads g.R.Reasons.reason g.K.Sink.written g.K.Sink.writes g.K.Sink.faults (asked c.args.command) got.result c.args.shelf.now got.new.shelf
     c.args.sink.now c.emit.new.sink report.status report.refusal
     (record { loads = got.ensures.loads; made = got.ensures.reads; answered = got.ensures.answered; carries = got.ensures.carries; sized = got.ensures.sized; asked = got.ensures.asked })
     (record {
@@ -60,7 +60,7 @@ returns-in-Ok g c =
     let got = c.gather-gathered in
     let cut = c.in-Err-emit.ensures.err in
     rw c.stop_of-stop.ensures
-    (performed g.S.Shelf.files g.S.Shelf.steady g.S.Shelf.faults g.S.Shelf.reads g.S.Explain.reason g.K.Sink.written g.K.Sink.writes g.K.Sink.faults (asked c.args.command) got.result c.args.shelf.now got.new.shelf
+    (performed g.S.Shelf.files g.S.Shelf.steady g.S.Shelf.faults g.S.Shelf.reads g.R.Reasons.reason g.K.Sink.written g.K.Sink.writes g.K.Sink.faults (asked c.args.command) got.result c.args.shelf.now got.new.shelf
     c.args.sink.now c.emit.new.sink WriteFault None
     (record { loads = got.ensures.loads; made = got.ensures.reads; answered = got.ensures.answered; carries = got.ensures.carries; sized = got.ensures.sized; asked = got.ensures.asked })
     (record {
@@ -92,7 +92,7 @@ returns g c =
     let others = no-report status c.in-Err.ensures.stops in
     let fault = c.in-Err.ensures.read_fault in
     rw c.stop_of-stop.ensures
-    (performed g.S.Shelf.files g.S.Shelf.steady g.S.Shelf.faults g.S.Shelf.reads g.S.Explain.reason g.K.Sink.written g.K.Sink.writes g.K.Sink.faults (asked c.args.command) got.result c.args.shelf.now got.new.shelf
+    (performed g.S.Shelf.files g.S.Shelf.steady g.S.Shelf.faults g.S.Shelf.reads g.R.Reasons.reason g.K.Sink.written g.K.Sink.writes g.K.Sink.faults (asked c.args.command) got.result c.args.shelf.now got.new.shelf
     c.args.sink.now c.args.sink.now status None
     (record { loads = got.ensures.loads; made = got.ensures.reads; answered = got.ensures.answered; carries = got.ensures.carries; sized = got.ensures.sized; asked = got.ensures.asked })
     (record {

@@ -2,7 +2,7 @@ use Rattle.move_text.proofs.from_counting.Common.{[], ◌∷◌, refl}
 use Rattle.graph_text.specs.Common.{named_graph}
 use Rattle.bench_tasks.specs.Common.{graph_file, loaded_as, pick_file, place_name, given_picks}
 use Rattle.bench_tasks.proofs.AnswersMade.{answered-both, answered-stopped, answered-stopped-second}
-use Rattle.bench_tasks.proofs.loading.load_picks.Goals as goal
+use Rattle.bench_tasks.proofs.file_sets.load_picks.Goals as goal
 
 pub returns-in-Err-clause-answered : goal.returns-in-Err-clause-answered
 returns-in-Err-clause-answered g c =

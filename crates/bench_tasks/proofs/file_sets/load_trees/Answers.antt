@@ -2,7 +2,7 @@ use Rattle.move_text.proofs.from_counting.Common.{[], ◌∷◌, refl}
 use Rattle.tree_core.proofs.Common.{shape_of}
 use Rattle.bench_tasks.specs.Common.{loaded_as, tree_file, tree_given, place_name, given_tree, given_trees}
 use Rattle.bench_tasks.proofs.AnswersMade.{answered-both, answered-stopped, answered-stopped-second}
-use Rattle.bench_tasks.proofs.loading.load_trees.Goals as goal
+use Rattle.bench_tasks.proofs.file_sets.load_trees.Goals as goal
 
 pub returns-in-Err-clause-answered : goal.returns-in-Err-clause-answered
 returns-in-Err-clause-answered g c =

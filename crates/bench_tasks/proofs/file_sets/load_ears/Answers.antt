@@ -4,7 +4,7 @@ use Rattle.ear_text.specs.from_ear_core.Common.{ears_of}
 use Rattle.bench_tasks.specs.Common.{graph_file, loaded_as, ear_file, place_name, given_ears}
 use Rattle.bench_tasks.proofs.AnswersMade.{answered-both, answered-stopped, answered-stopped-second}
 use Rattle.bench_tasks.proofs.SizesCarried.{carries-sizes, gave-sizes}
-use Rattle.bench_tasks.proofs.loading.load_ears.Goals as goal
+use Rattle.bench_tasks.proofs.file_sets.load_ears.Goals as goal
 
 pub returns-in-Err-clause-answered : goal.returns-in-Err-clause-answered
 returns-in-Err-clause-answered g c =
