@@ -10,7 +10,7 @@
 //! result and every next state, with planned errors: they are for tests. `DirShelf`, `InSource`,
 //! `OutSink` and `LineSink` (standard error) are the runtime's, the trusted edge. They retry a call
 //! that a signal interrupts, up to 1,024 times. `emit` writes a whole output. For messages there
-//! are `Explain`, `Inlet` and `Outlet`.
+//! are `Explain`, `Reasons`, `Inlet` and `Outlet`.
 //!
 //! Depends on `std` alone. The contracts follow POSIX's `read` and `write`.
 #![tactic(auto)]
