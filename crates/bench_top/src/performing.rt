@@ -98,23 +98,23 @@ pub fn perform<'a, R: Reasons<S>, S: Shelf, K: Sink>(
         shelf.old shelf.new sink.old sink.new }
 {
     let gathered = gather(alloc, command, reasons, shelf);
-    let judged = report_on(alloc, gathered);
-    match judged.report {
+    let Judged { report, stop } = report_on(alloc, gathered);
+    match report {
         Ok(report) => match emit(sink, &report.bytes) {
             Ok(()) => RunEnding {
                 status: report.status,
-                stop: judged.stop,
+                stop,
                 refusal: report.refusal,
             },
             Err(SinkFailed) => RunEnding {
                 status: Status::WriteFault,
-                stop: judged.stop,
+                stop,
                 refusal: None,
             },
         },
         Err(status) => RunEnding {
             status,
-            stop: judged.stop,
+            stop,
             refusal: None,
         },
     }

@@ -30,7 +30,7 @@ pub returns-in-Ok-emit : goal.returns-in-Ok-emit
 returns-in-Ok-emit g c =
     let report = c.in-Ok.report in
     let got = c.gather-gathered in
-    let judged = c.report_on-judged in
+    let judged = c.report_on-report in
     let is = c.in-Ok.is in
     let others = not-reported report.status (rw is at judged.ensures.reported) in
     let now = subst (λ (l : List ℕ). g.K.Sink.written c.emit.new.sink ≡ appended (g.K.Sink.written c.args.sink.now) l) c.deref.ensures.value c.in-Ok-emit.ensures.ok in
@@ -58,7 +58,7 @@ pub returns-in-Ok : goal.returns-in-Ok
 returns-in-Ok g c =
     let report = c.in-Ok.report in
     let got = c.gather-gathered in
-    let judged = c.report_on-judged in
+    let judged = c.report_on-report in
     let is = c.in-Ok.is in
     let cut = c.in-Err-emit.ensures.err in
     rw judged.ensures.stop
@@ -91,7 +91,7 @@ pub returns : goal.returns
 returns g c =
     let status = c.in-Err.status in
     let got = c.gather-gathered in
-    let judged = c.report_on-judged in
+    let judged = c.report_on-report in
     let stops = rw c.in-Err.is at judged.ensures.stops in
     let others = no-report status stops in
     let fault = rw c.in-Err.is at judged.ensures.read_fault in
