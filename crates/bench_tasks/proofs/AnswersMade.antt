@@ -1,23 +1,23 @@
 -- Answers of reads, put together: one more after those that were given, and a stop at it. What was
 -- loaded of the first files is what all files hold that give the first answers, and so on with the
 -- next: nothing is known of the files but what the answers say.
-use Rattle.std.proofs.Common.{◌≡◌, ℕ, ◌+◌, ◌≤◌, ◌<◌, List, [], ◌∷◌, ◌++◌, length, take, refl, ap, sym, subst, arith, length-append, Result, Ok, Err, IfErr, IsOkAnd, MatchResult}
+use Rattle.std.proofs.Common.{◌≡◌, ◌∙◌, ℕ, ◌+◌, ◌≤◌, ◌<◌, List, [], ◌∷◌, ◌++◌, length, take, refl, ap, sym, subst, arith, length-append, Result, Ok, Err, IfErr, IsOkAnd, MatchResult}
 use Rattle.move_text.proofs.from_counting.Common.{take_all}
 use Rattle.outside.specs.Common.{Answer, AnswersInTurn, NamedFile, ReadsInTurn, file_named}
-use Rattle.bench_tasks.specs.Common.{CountsAs, FailedAs, LastFailed, failures_in, failures_of, StopsAs, GathersAnswered, GaveFile, HoldGiven, LoadsAnswered, ReadsOnce, by_place, place_name, Command, file_names, Loaded, and_then, loaded, loaded_as, task_of, ReadsAs, StopsAt}
+use Rattle.bench_tasks.specs.Common.{CarriesBytes, CountsAs, FailedAs, LastFailed, failures_in, failures_of, StopsAs, GathersAnswered, GaveFile, HoldGiven, LoadsAnswered, ReadsOnce, by_place, place_name, Command, file_names, Loaded, and_then, loaded, loaded_as, task_of, ReadsAs, StopsAt, last_bytes}
 use Rattle.bench_tasks.specs.declared.stop.Stop.{Stop}
 use Rattle.bench_tasks.specs.declared.stop.Stop.TheVariants.{ReadFault, Bad, Memory}
 use Rattle.bench_tasks.specs.declared.tasks.Task.TheVariants as code
 
 -- a stop stays where more is made of what is loaded
 stops-then : {A B : Type 0} (stopped : Stop) (loaded : Loaded A) (next : A → Loaded B) → StopsAs stopped loaded → StopsAs stopped (and_then loaded next)
-stops-then (ReadFault file) loaded next stops = tt
-stops-then (Bad file line kind) loaded next stops = ap (λ (l : Loaded _). and_then l next) stops
+stops-then (ReadFault file unread) loaded next stops = tt
+stops-then (Bad file line kind found) loaded next stops = ap (λ (l : Loaded _). and_then l next) stops
 stops-then Memory loaded next stops = tt
 
 stops-made : {A B : Type 0} (stopped : Stop) (loaded : Loaded A) (make : A → B) → StopsAs stopped loaded → StopsAs stopped (loaded_as make loaded)
-stops-made (ReadFault file) loaded make stops = tt
-stops-made (Bad file line kind) loaded make stops = ap (loaded_as make) stops
+stops-made (ReadFault file unread) loaded make stops = tt
+stops-made (Bad file line kind found) loaded make stops = ap (loaded_as make) stops
 stops-made Memory loaded make stops = tt
 
 module _ {S : Type 0} (reads : S → List ℕ → Answer → S → Type 0) where
@@ -69,13 +69,13 @@ hold-split files place (other ∷ answers) answer given = grind (arith, hold-spl
 
 -- a stop at the place after so many answers is counted by one answer more
 counts-at : (X : Type 0) (n m : ℕ) (stopped : Stop) → 0 < m → StopsAt m stopped → CountsAs {X = X} n m (Err stopped)
-counts-at X n m (ReadFault file) positive at = (subst (λ (k : ℕ). 0 < k) (sym at) positive, sym at)
-counts-at X n m (Bad file line kind) positive at = (subst (λ (k : ℕ). 0 < k) (sym at) positive, sym at)
+counts-at X n m (ReadFault file unread) positive at = (subst (λ (k : ℕ). 0 < k) (sym at) positive, sym at)
+counts-at X n m (Bad file line kind found) positive at = (subst (λ (k : ℕ). 0 < k) (sym at) positive, sym at)
 counts-at X n m Memory positive at = tt
 
 counts-stopped : (X Z : Type 0) (n m k : ℕ) (stopped : Stop) → CountsAs {X = X} n k (Err stopped) → CountsAs {X = Z} m k (Err stopped)
-counts-stopped X Z n m k (ReadFault file) counts = counts
-counts-stopped X Z n m k (Bad file line kind) counts = counts
+counts-stopped X Z n m k (ReadFault file unread) counts = counts
+counts-stopped X Z n m k (Bad file line kind found) counts = counts
 counts-stopped X Z n m k Memory counts = tt
 
 -- the reads that failed of two lists
@@ -94,14 +94,26 @@ none-failed answers answer none last = let both = failures-append answers (answe
 
 -- a stop after reads that did not fail, and then one more
 failed-both : (X Z : Type 0) (answers : List Answer) (answer : Answer) (stopped : Stop) → failures_of answers ≡ 0 → FailedAs {X = X} (answer ∷ []) (Err stopped) → FailedAs {X = Z} (answers ++ answer ∷ []) (Err stopped)
-failed-both X Z answers answer (ReadFault file) none failed = last-failed answers answer none failed
-failed-both X Z answers answer (Bad file line kind) none failed = none-failed answers answer none failed
+failed-both X Z answers answer (ReadFault file unread) none failed = last-failed answers answer none failed
+failed-both X Z answers answer (Bad file line kind found) none failed = none-failed answers answer none failed
 failed-both X Z answers answer Memory none failed = none-failed answers answer none failed
 
 failed-stopped : (X Z : Type 0) (answers : List Answer) (stopped : Stop) → FailedAs {X = X} answers (Err stopped) → FailedAs {X = Z} answers (Err stopped)
-failed-stopped X Z answers (ReadFault file) failed = failed
-failed-stopped X Z answers (Bad file line kind) failed = failed
+failed-stopped X Z answers (ReadFault file unread) failed = failed
+failed-stopped X Z answers (Bad file line kind found) failed = failed
 failed-stopped X Z answers Memory failed = failed
+
+-- the last read of some and one more is that one
+last-bytes : (answers : List Answer) (answer : Answer) → last_bytes (answers ++ answer ∷ []) ≡ last_bytes (answer ∷ [])
+last-bytes [] answer = refl
+last-bytes (first ∷ []) answer = refl
+last-bytes (first ∷ next ∷ answers) answer = last-bytes (next ∷ answers) answer
+
+-- a stop carries the bytes of the last read, also after others
+carries-both : (answers : List Answer) (answer : Answer) (stopped : Stop) → CarriesBytes (answer ∷ []) stopped → CarriesBytes (answers ++ answer ∷ []) stopped
+carries-both answers answer (ReadFault file unread) carries = tt
+carries-both answers answer (Bad file line kind found) carries = carries ∙ sym (last-bytes answers answer)
+carries-both answers answer Memory carries = tt
 
 -- the first file
 pub answered-first :
@@ -112,6 +124,7 @@ answered-first {S} {X} reads name view held result first last stops once = recor
   in_turn = (last, (once.read, refl));
   counts = go result stops;
   failed = once.failed;
+  carries = once.carries;
   loads = λ files given. once.loads files given.0;
 }
   where
@@ -161,6 +174,7 @@ module _ {S X Z A C : Type 0} (reads : S → List ℕ → Answer → S → Type 
           subst (λ (m : ℕ). CountsAs {X = Z} (length (names ++ name ∷ [])) m (Err stopped)) (sym (both-count two.answer))
           (counts-at Z (length (names ++ name ∷ [])) (length names + 1) stopped (omega arith) at);
       failed = failed-both Y Z one.answers two.answer stopped one.failed two.failed;
+      carries = carries-both one.answers two.answer stopped two.carries;
       loads = λ files given.
           let parts = both-given files two.answer given in
           subst (λ (l : Loaded C). StopsAs stopped l) (sym (made-then files parts.0))

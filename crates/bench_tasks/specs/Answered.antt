@@ -2,10 +2,11 @@
 -- files of the command, counted from 1, since one name may be asked for twice and answered with
 -- other bytes. So what is loaded of a shelf that tells no files is what these files hold.
 -- Stated by: bench_tasks. Used by: bench_top.
-use Rattle.std.specs.Prelude.{◌≡◌, ◌<◌, ℕ, ◌+◌, List, [], ◌∷◌, length, Option, Some, Result, Ok, Err}
+use Rattle.std.specs.Prelude.{◌≡◌, ◌<◌, ℕ, ◌+◌, List, [], ◌∷◌, length, Option, Some, Result, Ok, Err, IfErr}
 use Rattle.outside.specs.Common.{Answer, AnswersInTurn, NamedFile, file_named}
 use Rattle.outside.specs.declared.shelf.ShelfFault.TheVariants.{Failed, TooLong, Memory}
 use Rattle.bench_tasks.specs.Commands.{Command, OnGraph, OnSimpleGraph, OnTree, OnPicks, OnEars, OnMoves, OnTrees, OnNumbers}
+use Rattle.bench_tasks.specs.Carried.{CarriesBytes}
 use Rattle.bench_tasks.specs.Files.{file_names}
 use Rattle.bench_tasks.specs.Loading.{Loaded, loaded, most_bytes}
 use Rattle.bench_tasks.specs.Loads.{LoadsAs, task_of}
@@ -48,8 +49,8 @@ HoldGiven files place (answer ∷ answers) = GaveFile answer (file_named (place_
 -- a value comes of answers for all names, and a stop at a file of the answers up to that file
 abbrev pub CountsAs : {X : Type 0} → (names answers : ℕ) → Result X Stop → Type 0
 CountsAs names answers (Ok x) = answers ≡ names
-CountsAs names answers (Err (stop.ReadFault file)) = (0 < file) × (answers ≡ file)
-CountsAs names answers (Err (stop.Bad file line kind)) = (0 < file) × (answers ≡ file)
+CountsAs names answers (Err (stop.ReadFault file unread)) = (0 < file) × (answers ≡ file)
+CountsAs names answers (Err (stop.Bad file line kind found)) = (0 < file) × (answers ≡ file)
 CountsAs names answers (Err stop.Memory) = Unit {0}
 
 -- 1 if a read failed that answered so, and 0 if not
@@ -74,25 +75,29 @@ LastFailed (answer ∷ next ∷ answers) = (failures_in answer ≡ 0) × LastFai
 -- is neither a bad file nor want of memory
 abbrev pub FailedAs : {X : Type 0} → List Answer → Result X Stop → Type 0
 FailedAs answers (Ok x) = failures_of answers ≡ 0
-FailedAs answers (Err (stop.ReadFault file)) = LastFailed answers
-FailedAs answers (Err (stop.Bad file line kind)) = failures_of answers ≡ 0
+FailedAs answers (Err (stop.ReadFault file unread)) = LastFailed answers
+FailedAs answers (Err (stop.Bad file line kind found)) = failures_of answers ≡ 0
 FailedAs answers (Err stop.Memory) = failures_of answers ≡ 0
 
 -- one read, of that name, leads from the first shelf to the last, and what was loaded is what
--- the file at this place holds, if it may be the one that the read gave
+-- the file at this place holds, if it may be the one that the read gave; a bad file is carried with
+-- the bytes that the read returned
 pub record ReadsOnce {S X A : Type 0} (reads : S → List ℕ → Answer → S → Type 0) (name : List ℕ) (place : ℕ) (view : X → A) (held : List NamedFile → Loaded A) (result : Result X Stop) (first last : S) : Type 0 where
   pub answer : Answer
   pub read : reads first name answer last
   pub failed : FailedAs (answer ∷ []) result
+  pub carries : IfErr result (CarriesBytes (answer ∷ []))
   pub loads : (files : List NamedFile) → GaveFile answer (file_named (place_name place) files) → LoadsAs view result (held files)
 
 -- reads of the first of these names, up to a stop, lead from the first shelf to the last, and
--- what was loaded is what all files hold that may be those that the reads gave
+-- what was loaded is what all files hold that may be those that the reads gave; a bad file is
+-- carried with the bytes that the last read returned
 pub record LoadsAnswered {S X A : Type 0} (reads : S → List ℕ → Answer → S → Type 0) (names : List (List ℕ)) (view : X → A) (held : List NamedFile → Loaded A) (result : Result X Stop) (first last : S) : Type 0 where
   pub answers : List Answer
   pub in_turn : AnswersInTurn reads names answers first last
   pub counts : CountsAs (length names) (length answers) result
   pub failed : FailedAs answers result
+  pub carries : IfErr result (CarriesBytes answers)
   pub loads : (files : List NamedFile) → HoldGiven files 1 answers → LoadsAs view result (held files)
 
 -- the same of the files of a command

@@ -1,5 +1,5 @@
 -- How the code's command is seen.
--- Stated by: bench_tasks, bench_top, front_top.
+-- Stated by: bench_tasks, bench_top.
 use Rattle.bench_tasks.specs.Commands.{Command, OnGraph, OnSimpleGraph, OnTree, OnPicks, OnEars, OnMoves, OnTrees, OnNumbers}
 use Rattle.bench_tasks.specs.declared.command.Command.TheVariants as code
 

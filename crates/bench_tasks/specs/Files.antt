@@ -1,7 +1,7 @@
 -- The files of a command: the one table that says which files it reads, in which order, and as
 -- what.
--- Stated by: bench_tasks, bench_top. Used by: front_top.
-use Rattle.std.specs.Prelude.{ℕ, ◌==◌, List, [], ◌∷◌, map, slice_get, if◌then◌else◌, Option, None}
+-- Stated by: bench_tasks, bench_top.
+use Rattle.std.specs.Prelude.{ℕ, List, [], ◌∷◌, map}
 use Rattle.bench_tasks.specs.Commands.{Command, OnGraph, OnSimpleGraph, OnTree, OnPicks, OnEars, OnMoves, OnTrees, OnNumbers}
 use Rattle.refusals.specs.declared.file_kind.FileKind.{FileKind}
 use Rattle.refusals.specs.declared.file_kind.FileKind.TheVariants as kind
@@ -24,10 +24,3 @@ files_of (OnNumbers verb seed pieces) = []
 -- the names of the files of a command, in the order of the words
 abbrev pub file_names : Command → List (List ℕ)
 file_names command = map (λ (file : File). file.0) (files_of command)
-
--- the file at that place, which is 1, 2 or 3
-abbrev pub file_at : Command → ℕ → Option File
-file_at command place =
-    if place == 1 then slice_get (files_of command) 0 else
-    if place == 2 then slice_get (files_of command) 1 else
-    if place == 3 then slice_get (files_of command) 2 else None

@@ -1,5 +1,5 @@
 -- How the code's file of a command is seen.
--- Stated by: bench_tasks, front_top.
+-- Stated by: bench_tasks.
 use Rattle.bench_tasks.specs.Files.{File}
 use Rattle.bench_tasks.specs.declared.files.CommandFile.{CommandFile}
 

@@ -6,7 +6,9 @@ pub mod Tasks
 pub mod Loading
 pub mod Loads
 pub mod Reads
+pub mod Carried
 pub mod Answered
+pub mod Sized
 pub mod Common
 -- Passed on to the crates above: from_NAME is all that the crate NAME has in its folder of this name.
 pub use Rattle.grow_gen.specs as from_grow_gen

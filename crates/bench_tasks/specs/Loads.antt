@@ -62,8 +62,8 @@ task_of (code.OnNumbers verb growth) = task.OnNumbers verb growth.seed growth.pi
 
 -- a stop names the first bad file; nothing is said of a failed read or of lack of memory
 abbrev pub StopsAs : {A : Type 0} → Stop → Loaded A → Type 0
-StopsAs (stop.Bad file line kind) loaded = loaded ≡ Bad file line (kind_number kind)
-StopsAs (stop.ReadFault file) loaded = Unit {0}
+StopsAs (stop.Bad file line kind found) loaded = loaded ≡ Bad file line (kind_number kind)
+StopsAs (stop.ReadFault file unread) loaded = Unit {0}
 StopsAs stop.Memory loaded = Unit {0}
 
 -- what was loaded, seen by view, is what the files hold

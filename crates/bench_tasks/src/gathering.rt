@@ -1,31 +1,42 @@
 //! The task that the files of a command make of it.
-ghost use Rattle.std.specs.Prelude.{IfOk};
-ghost use Rattle.bench_tasks.specs.Common.{GathersAnswered, asked, file_names, loaded, Loads, task_of, ReadsAs, IsTaskOf};
+ghost use Rattle.std.specs.Prelude.{IfErr, IfOk};
+ghost use Rattle.bench_tasks.specs.Common.{CarriesFile, CarriesFirstSizes, GathersAnswered, asked, file_names, files_of, loaded, Loads, task_of, ReadsAs, IsTaskOf};
 
 use crate::command::Command;
+use crate::file_sets::{load_ears, load_moves, load_picks, load_tree, load_trees};
 use crate::formats::{Graph6File, GraphFile};
-use crate::loading::{load_ears, load_first, load_moves, load_picks, load_tree, load_trees};
+use crate::loading::load_first;
 use crate::stop::Stop;
 use crate::tasks::Task;
-use outside::Shelf;
+use outside::{Reasons, Shelf};
 use std::alloc::Global;
 
 /// Reads and parses the files of the command, in the order of the words, up to the first that
-/// stops it.
-pub fn gather<S: Shelf>(alloc: Global, command: Command<'_>, shelf: &mut S) -> Result<Task, Stop>
+/// stops it. The stop has what the loader knows of this file: its bytes are those that its read
+/// returned, so they take no memory of their own.
+pub fn gather<'a, R: Reasons<S>, S: Shelf>(
+    alloc: Global,
+    command: Command<'a>,
+    reasons: &R,
+    shelf: &mut S,
+) -> Result<Task, Stop<'a>>
     ensures loads { Loads S.files S.steady S.faults task_of
         (λ files. loaded files (asked command.entry))
         result shelf.old shelf.new }
     ensures reads { ReadsAs S.reads (file_names (asked command.entry)) result shelf.old shelf.new }
     ensures answered { GathersAnswered S.reads (asked command.entry) result shelf.old shelf.new }
+    // A stop carries the file of the command that stopped it, and why it could not be read.
+    ensures carries { IfErr result
+        (CarriesFile (files_of (asked command.entry)) (R.reason shelf.new)) }
+    // The sizes that it carries are those of the graph that the first file stands for.
+    ensures sized { IfErr result
+        (CarriesFirstSizes S.reads (file_names (asked command.entry)) shelf.old) }
     ensures asked { IfOk result (λ task. IsTaskOf (asked command.entry) (task_of task)) }
 {
     match command {
-        Command::OnGraph { verb, graph_file } => load_first(
-            alloc, &GraphFile, graph_file, shelf,
-        ).map(|named| Task::OnGraph { verb, named }),
+        Command::OnGraph { verb, graph_file } => load_first(alloc, &GraphFile, graph_file, reasons, shelf).map(|named| Task::OnGraph { verb, named }),
         Command::OnSimpleGraph { verb, graph_file } => {
-            load_first(alloc, &Graph6File, graph_file, shelf).map(|simple| Task::OnSimpleGraph {
+            load_first(alloc, &Graph6File, graph_file, reasons, shelf).map(|simple| Task::OnSimpleGraph {
                 verb,
                 simple,
             })
@@ -34,7 +45,7 @@ pub fn gather<S: Shelf>(alloc: Global, command: Command<'_>, shelf: &mut S) -> R
             verb,
             graph_file,
             tree_file,
-        } => load_tree(alloc, graph_file, tree_file, shelf).map(|given| Task::OnTree {
+        } => load_tree(alloc, graph_file, tree_file, reasons, shelf).map(|given| Task::OnTree {
             verb,
             given,
         }),
@@ -42,7 +53,7 @@ pub fn gather<S: Shelf>(alloc: Global, command: Command<'_>, shelf: &mut S) -> R
             verb,
             graph_file,
             picks_file,
-        } => load_picks(alloc, graph_file, picks_file, shelf).map(|given| Task::OnPicks {
+        } => load_picks(alloc, graph_file, picks_file, reasons, shelf).map(|given| Task::OnPicks {
             verb,
             given,
         }),
@@ -50,7 +61,7 @@ pub fn gather<S: Shelf>(alloc: Global, command: Command<'_>, shelf: &mut S) -> R
             verb,
             graph_file,
             ears_file,
-        } => load_ears(alloc, graph_file, ears_file, shelf).map(|given| Task::OnEars {
+        } => load_ears(alloc, graph_file, ears_file, reasons, shelf).map(|given| Task::OnEars {
             verb,
             given,
         }),
@@ -59,7 +70,7 @@ pub fn gather<S: Shelf>(alloc: Global, command: Command<'_>, shelf: &mut S) -> R
             graph_file,
             tree_file,
             moves_file,
-        } => load_moves(alloc, graph_file, tree_file, moves_file, shelf).map(|given| Task::OnMoves {
+        } => load_moves(alloc, graph_file, tree_file, moves_file, reasons, shelf).map(|given| Task::OnMoves {
             verb,
             given,
         }),
@@ -68,7 +79,7 @@ pub fn gather<S: Shelf>(alloc: Global, command: Command<'_>, shelf: &mut S) -> R
             graph_file,
             first_file,
             second_file,
-        } => load_trees(alloc, graph_file, first_file, second_file, shelf).map(
+        } => load_trees(alloc, graph_file, first_file, second_file, reasons, shelf).map(
             |given| Task::OnTrees { verb, given },
         ),
         Command::OnNumbers { verb, growth } => Ok(Task::OnNumbers { verb, growth }),

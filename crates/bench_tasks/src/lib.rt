@@ -13,6 +13,7 @@
 #![tactic(auto)]
 
 mod command;
+mod file_sets;
 mod files;
 mod formats;
 mod gathering;
@@ -25,9 +26,9 @@ mod words;
 // Passed on to the crates above.
 pub use command::{Command, GrowNumbers};
 pub use decomposer;
-pub use files::{CommandFile, file_at};
+pub use files::CommandFile;
 pub use gathering::gather;
-pub use stop::Stop;
+pub use stop::{FaultyFile, Stop, UnreadFile};
 pub use tasks::{GivenEars, GivenMoves, GivenPicks, GivenTree, GivenTrees, SimpleGraph, Task};
 pub use verbs::{
     EarsVerb, GraphVerb, MovesVerb, NumbersVerb, PicksVerb, SimpleGraphVerb, TreeVerb, TreesVerb,

@@ -68,8 +68,8 @@ none-failed-with ended.Memory answers not none = none
 failed-with : (status : Status) (result : Result code.the_data Stop) (answers : List Answer) →
     (status ≡ ended.ReadFault → IsReadFault result) → (IsReadFault result → status ≡ ended.ReadFault) → FailedAs answers result → FailedWith status answers
 failed-with status (Ok task) answers to from failed = none-failed-with status answers (λ e. to e) failed
-failed-with status (Err (stop.ReadFault file)) answers to from failed = subst (λ (s : Status). FailedWith s answers) (sym (from tt)) failed
-failed-with status (Err (stop.Bad file line kind)) answers to from failed = none-failed-with status answers (λ e. to e) failed
+failed-with status (Err (stop.ReadFault file unread)) answers to from failed = subst (λ (s : Status). FailedWith s answers) (sym (from tt)) failed
+failed-with status (Err (stop.Bad file line kind found)) answers to from failed = none-failed-with status answers (λ e. to e) failed
 failed-with status (Err stop.Memory) answers to from failed = none-failed-with status answers (λ e. to e) failed
 
 -- a run whose writes are those of an outcome of whatever was loaded

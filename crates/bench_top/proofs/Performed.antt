@@ -1,10 +1,11 @@
 -- What a command makes of the shelf and the sink is `RunsTo`: it follows from what reading its
 -- files made of the shelf, and from how the run ended with what was read.
-use Rattle.std.proofs.Common.{◌≡◌, ◌∙◌, ◌⊎◌, ◌↔◌, ℕ, List, Bool, IsTrue, IsOk, IfOk, Option, Some, Result, sym, ap, subst, is_some, arith}
+use Rattle.std.proofs.Common.{◌≡◌, ◌∙◌, ◌⊎◌, ◌↔◌, ℕ, List, Bool, IsTrue, IsOk, IfErr, IfOk, Option, Some, Result, sym, ap, subst, is_some, arith}
 use Rattle.std.proofs.lemmas.Option.{none-some, same_Some}
 use Rattle.outside.specs.Common.{Answer, NamedFile, ReadsInTurn, Rose}
+use Rattle.outside.specs.declared.explain.FailureReason.{FailureReason}
 use Rattle.refusals.specs.declared.refusal.Refusal.{Refusal}
-use Rattle.bench_reports.specs.from_bench_tasks.Common.{Absent, All, Bad, Command, FailsAs, GathersAnswered, Held, HasNoMissing, IsReadFault, IsTaskOf, Loaded, Loads, LoadsAs, ReadsAs, Task, file_names, loaded, names_until, task_of}
+use Rattle.bench_reports.specs.from_bench_tasks.Common.{Absent, All, Bad, CarriesFile, CarriesFirstSizes, Command, FailsAs, GathersAnswered, Held, HasNoMissing, IsReadFault, IsTaskOf, Loaded, Loads, LoadsAs, ReadsAs, Task, file_names, files_of, loaded, names_until, task_of}
 use Rattle.bench_reports.specs.from_bench_tasks.declared.stop.Stop.{Stop}
 use Rattle.bench_reports.specs.from_bench_tasks.declared.tasks.Task.TheVariants as code
 use Rattle.bench_reports.specs.from_bench_outcomes.Common.{Appended, CutShort, GatheredMayRefuse, IsPlaced, IsReported, IsSettled, LoadedGives, is_negative}
@@ -19,7 +20,7 @@ use Rattle.bench_top.proofs.GivenFiles.{given-outcome}
 use Rattle.bench_top.proofs.ReadsMade.{absent-fault, first-reads}
 use Rattle.bench_top.proofs.Refusals.{may-refuse}
 use Rattle.bench_top.proofs.RunsMade.{calm-reads, ends-absent, ends-bad, ends-good}
-use Rattle.bench_top.proofs.Stops.{stop-is, stop-reads, unread}
+use Rattle.bench_top.proofs.Stops.{stop-carries, stop-carries-bytes, stop-carries-graph, stop-is, stop-reads, unread}
 use Rattle.bench_top.proofs.WritesMade.{writes-more, wrote-appended, wrote-none, wrote-prefix}
 
 -- what was gathered gives this status and this output, whatever files it was read from
@@ -32,13 +33,15 @@ not-absent held task is file absent = grind arith
 bad-not-absent : (held : Loaded Task) (at line kind : ℕ) → held ≡ Bad at line kind → (file : ℕ) → held ≡ Absent file → ⊥
 bad-not-absent held at line kind is file absent = grind arith
 
-module _ {S K : Type 0} (holds : S → Option (List NamedFile)) (is_steady : S → Bool) (faults : S → ℕ) (reads : S → List ℕ → Answer → S → Type 0)
+module _ {S K : Type 0} (holds : S → Option (List NamedFile)) (is_steady : S → Bool) (faults : S → ℕ) (reads : S → List ℕ → Answer → S → Type 0) (reason : S → Option FailureReason)
     (written : K → Option (List ℕ)) (writes : K → List ℕ → ℕ → K → Type 0) (sink_faults : K → ℕ) (k : Command) (gathered : Result code.the_data Stop) (first last : S) (before now : K) where
   -- the files of the command were read, and this was gathered
   pub record HasGathered : Type 0 where
     pub loads : Loads holds is_steady faults task_of (λ files. loaded files k) gathered first last
     pub made : ReadsAs reads (file_names k) gathered first last
     pub answered : GathersAnswered reads k gathered first last
+    pub carries : IfErr gathered (CarriesFile (files_of k) (reason last))
+    pub sized : IfErr gathered (CarriesFirstSizes reads (file_names k) first)
     pub asked : IfOk gathered (λ task. IsTaskOf k (task_of task))
 
   -- the run ended so with what was gathered
@@ -64,7 +67,7 @@ module _ {S K : Type 0} (holds : S → Option (List NamedFile)) (is_steady : S �
   read-all made whole = grind arith
 
   pub performed : (status : Status) (refused : Option Refusal) → HasGathered → HasEnded status refused →
-      RunsTo holds is_steady faults reads written writes sink_faults (Some k) status (stop_in gathered) refused first last before now
+      RunsTo holds is_steady faults reads reason written writes sink_faults (Some k) status (stop_in gathered) refused first last before now
   performed status refused got ended =
       let steady = is_steady first in
       let loads = got.loads in
@@ -127,6 +130,9 @@ module _ {S K : Type 0} (holds : S → Option (List NamedFile)) (is_steady : S �
         };
         stops = λ files command told row. subst (λ (l : Command). IsStopOf steady (stop_in gathered) (loaded files l)) (same_Some k command row) (stops files told);
         stops_after = stop-reads reads (file_names k) gathered first last got.made;
+        carries = stop-carries (files_of k) (reason last) gathered got.carries;
+        carries_bytes = stop-carries-bytes reads k gathered first last got.answered;
+        carries_graph = stop-carries-graph reads (file_names k) gathered first got.sized;
         reported = ended.bad;
         unread_file = λ fault. unread gathered (ended.read_fault.0 fault);
         is_refused = ended.is_refused;

@@ -4,6 +4,7 @@
 use Rattle.std.proofs.Common.{◌≡◌, ◌⊎◌, inl, inr, ℕ, List, [], Bool, IsTrue, Option, Some, None, refl, arith}
 use Rattle.std.proofs.lemmas.Option.{none-some}
 use Rattle.outside.specs.Common.{Answer, NamedFile, Rose}
+use Rattle.outside.specs.declared.explain.FailureReason.{FailureReason}
 use Rattle.bench_reports.specs.from_bench_tasks.Common.{Command, Loaded, All, Bad, Absent, Task}
 use Rattle.bench_reports.specs.from_bench_outcomes.Common.{Appended, CutShort, IsReported, IsSettled, LoadedGives}
 use Rattle.bench_reports.specs.from_bench_outcomes.declared.status.Status.{Status}
@@ -64,10 +65,10 @@ ends-good steady task Memory stopped before now usage read write stops bad = inr
 none-row : (command : Command) → None ≡ Some command → ⊥
 none-row command is = none-some command is
 
-pub usage-runs : {S K : Type 0} (holds : S → Option (List NamedFile)) (is_steady : S → Bool) (faults : S → ℕ) (reads : S → List ℕ → Answer → S → Type 0)
+pub usage-runs : {S K : Type 0} (holds : S → Option (List NamedFile)) (is_steady : S → Bool) (faults : S → ℕ) (reads : S → List ℕ → Answer → S → Type 0) (reason : S → Option FailureReason)
     (written : K → Option (List ℕ)) (writes : K → List ℕ → ℕ → K → Type 0) (sink_faults : K → ℕ) (shelf : S) (sink : K) →
-    RunsTo holds is_steady faults reads written writes sink_faults None Usage None None shelf shelf sink sink
-usage-runs holds is_steady faults reads written writes sink_faults shelf sink = record {
+    RunsTo holds is_steady faults reads reason written writes sink_faults None Usage None None shelf shelf sink sink
+usage-runs holds is_steady faults reads reason written writes sink_faults shelf sink = record {
   runs = record {
     usage = (λ e. refl, λ e. refl);
     unread = λ e. refl;
@@ -92,6 +93,9 @@ usage-runs holds is_steady faults reads written writes sink_faults shelf sink = 
   };
   stops = λ files command told row. absurd (none-row command row);
   stops_after = tt;
+  carries = tt;
+  carries_bytes = tt;
+  carries_graph = tt;
   reported = λ e. cc e;
   unread_file = λ e. cc e;
   is_refused = refl;

@@ -1,15 +1,16 @@
 -- What a run makes of a shelf and a sink, as one fact: `run`, `run_ending` and the front cite it.
 -- Stated by: bench_top. Used by: front_top.
 use Rattle.std.specs.Prelude.{◌≡◌, ◌⊎◌, ◌↔◌, ℕ, List, Bool, IsTrue, is_some, Option, Some, None}
+use Rattle.outside.specs.declared.explain.FailureReason.{FailureReason}
 use Rattle.outside.specs.Common.{Rose, Answer, NamedFile, ReadsFirst, ReadsInTurn}
-use Rattle.bench_reports.specs.from_bench_tasks.Common.{Command, Task, All, Bad, Absent, loaded, file_names, names_in, names_until}
+use Rattle.bench_reports.specs.from_bench_tasks.Common.{Command, Task, All, Bad, Absent, loaded, file_names, files_in, names_in, names_until}
 use Rattle.bench_reports.specs.from_bench_tasks.declared.stop.Stop.{Stop}
 use Rattle.refusals.specs.declared.refusal.Refusal.{Refusal}
 use Rattle.bench_reports.specs.from_bench_outcomes.Common.{CommandGives, MayRefuse, Appended, CutShort, IsPlaced, IsReported, IsSettled, Succeeds, is_negative}
 use Rattle.bench_reports.specs.from_bench_outcomes.declared.status.Status.{Status}
 use Rattle.bench_reports.specs.from_bench_outcomes.declared.status.Status.TheVariants as status
 use Rattle.bench_top.specs.Calm.{HasRead, IsCalm}
-use Rattle.bench_top.specs.Endings.{IsStopOf, ReportedBad, ReportedRefusal, StopsAfter, Unread}
+use Rattle.bench_top.specs.Endings.{Carries, CarriesGraph, CarriesRead, IsStopOf, ReportedBad, ReportedRefusal, StopsAfter, Unread}
 use Rattle.bench_top.specs.Given.{GivenOutcome}
 use Rattle.bench_top.specs.Writes.{GivesTold, WritesAs}
 
@@ -72,7 +73,7 @@ pub record Runs {S K : Type 0} (holds : S → Option (List NamedFile)) (is_stead
 
 -- the same, and this stopped the run, if it was stopped, and this is why its input was refused, if
 -- it was refused
-pub record RunsTo {S K : Type 0} (holds : S → Option (List NamedFile)) (is_steady : S → Bool) (faults : S → ℕ) (reads : S → List ℕ → Answer → S → Type 0)
+pub record RunsTo {S K : Type 0} (holds : S → Option (List NamedFile)) (is_steady : S → Bool) (faults : S → ℕ) (reads : S → List ℕ → Answer → S → Type 0) (reason : S → Option FailureReason)
     (written : K → Option (List ℕ)) (writes : K → List ℕ → ℕ → K → Type 0) (sink_faults : K → ℕ) (row : Option Command) (ended : Status) (stopped : Option Stop) (refused : Option Refusal)
     (first last : S) (before now : K) : Type 0 where
   pub runs : Runs holds is_steady faults reads written writes sink_faults row ended first last before now
@@ -81,6 +82,11 @@ pub record RunsTo {S K : Type 0} (holds : S → Option (List NamedFile)) (is_ste
       → IsStopOf (is_steady first) stopped (loaded files command)
   -- the files up to that of the stop are those that were read
   pub stops_after : StopsAfter reads (names_in row) stopped first last
+  -- it carries the file at its place among those of the words, and why that could not be read, or
+  -- the bytes that its read returned and the sizes of the graph that it is for
+  pub carries : Carries (files_in row) (reason last) stopped
+  pub carries_bytes : CarriesRead reads (names_in row) stopped first last
+  pub carries_graph : CarriesGraph reads (names_in row) stopped first
   -- a bad file is the one that the written line reports, and a failed read has its file
   pub reported : ended ≡ status.BadInput → ReportedBad stopped (written before) (written now)
   pub unread_file : ended ≡ status.ReadFault → Unread stopped

@@ -5,12 +5,13 @@ use bench_reports::bench_tasks::Stop;
 use refusals::Refusal;
 
 /// How a run ended, for who has to say it in words.
-#[derive(Clone, Copy, Debug, PartialEq)]
-pub struct RunEnding {
+#[derive(Debug, Drop)]
+pub struct RunEnding<'a> {
     /// The status.
     pub status: Status,
-    /// Why the files were not loaded. `None` if all were, and if the words match no command.
-    pub stop: Option<Stop>,
+    /// Why the files were not loaded, with what is known of the file that stopped the run. `None` if
+    /// all were, and if the words match no command.
+    pub stop: Option<Stop<'a>>,
     /// Why the input is refused. `None` if it is not.
     pub refusal: Option<Refusal>,
 }

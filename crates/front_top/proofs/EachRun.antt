@@ -2,6 +2,7 @@
 -- Idea: such words have no answer, so the part on answers is empty, and the run gives the others.
 use Rattle.std.proofs.Common.{◌≡◌, ◌∙◌, ℕ, List, Bool, true, false, Option, None, refl, sym}
 use Rattle.bench_top.specs.from_outside.Common.{Answer, NamedFile}
+use Rattle.bench_top.specs.from_outside.declared.explain.FailureReason.{FailureReason}
 use Rattle.bench_top.specs.from_bench_tasks.Common.{command_of}
 use Rattle.bench_top.specs.Runs.{RunsTo}
 use Rattle.bench_top.specs.declared.ending.RunEnding.{RunEnding}
@@ -11,12 +12,12 @@ use Rattle.front_top.specs.Fronts.{Fronts}
 use Rattle.front_top.specs.declared.ending.Message.{Message}
 use Rattle.front_top.specs.declared.ending.Message.TheVariants.{Nothing, Ending}
 
-module _ {S K : Type 0} (holds : S → Option (List NamedFile)) (is_steady : S → Bool) (faults : S → ℕ) (reads : S → List ℕ → Answer → S → Type 0)
+module _ {S K : Type 0} (holds : S → Option (List NamedFile)) (is_steady : S → Bool) (faults : S → ℕ) (reads : S → List ℕ → Answer → S → Type 0) (reason : S → Option FailureReason)
     (written : K → Option (List ℕ)) (writes : K → List ℕ → ℕ → K → Type 0) (sink_faults : K → ℕ) (words : List (List ℕ)) (is_quiet is_abandoned : Bool) (said : Message) where
   pub fronts_run : (ending : RunEnding) (first last : S) (before now : K) → answer_of Mcg words ≡ None →
-      RunsTo holds is_steady faults reads written writes sink_faults (command_of words) ending.status ending.stop ending.refusal first last before now →
+      RunsTo holds is_steady faults reads reason written writes sink_faults (command_of words) ending.status ending.stop ending.refusal first last before now →
       (is_quiet ≡ true → said ≡ Nothing) → (is_quiet ≡ false → said ≡ Ending ending) →
-      Fronts holds is_steady faults reads written writes sink_faults words is_quiet is_abandoned ending.status said first last before now
+      Fronts holds is_steady faults reads reason written writes sink_faults words is_quiet is_abandoned ending.status said first last before now
   fronts_run ending first last before now none ran quiet loud = record {
     answers = λ text is. let no : ⊥ = cc (sym none ∙ is) in absurd no;
     runs = λ other. ran.runs;

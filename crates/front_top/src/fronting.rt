@@ -3,15 +3,14 @@ ghost use Rattle.std.specs.Prelude.{◌≡◌, ◌⊎◌, map, string_bytes, tru
 ghost use Rattle.front_top.specs.Fronts.{Fronts};
 
 use crate::ending::{FrontEnding, Message};
-use crate::sizing::Sizing;
-use bench_top::outside::Outlet;
+use bench_top::outside::{Explain, Outlet};
 use bench_top::{RunEnding, Status, run_ending};
 use front_words::{Program, answer, answer_of};
 use std::alloc::Global;
 
 // What is to be said of an answer: that it could not be written whole, unless it is to be quiet or
 // nobody reads the answer any more.
-fn message_on_answer(status: Status, is_quiet: bool, is_abandoned: bool) -> Message
+fn message_on_answer<'a>(status: Status, is_quiet: bool, is_abandoned: bool) -> Message<'a>
     ensures quiet { is_quiet ≡ true → result ≡ Message.Nothing }
     ensures quietly { (status ≡ Status.Done) ⊎ (is_abandoned ≡ true) → result ≡ Message.Nothing }
     ensures lost { status ≡ Status.WriteFault → is_abandoned ≡ false → is_quiet ≡ false →
@@ -25,9 +24,9 @@ fn message_on_answer(status: Status, is_quiet: bool, is_abandoned: bool) -> Mess
 }
 
 // What is to be said of a run that ended so: what that means, unless it is to be quiet.
-fn message_on_run(ending: RunEnding, is_quiet: bool) -> Message
+fn message_on_run<'a>(ending: RunEnding<'a>, is_quiet: bool) -> Message<'a>
     ensures quiet { is_quiet ≡ true → result ≡ Message.Nothing }
-    ensures loud { is_quiet ≡ false → result ≡ Message.Ending ending }
+    ensures loud { is_quiet ≡ false → result ≡ Message.Ending ending.entry }
 {
     if is_quiet {
         Message::Nothing
@@ -40,20 +39,18 @@ fn message_on_run(ending: RunEnding, is_quiet: bool) -> Message
 /// to be said of it, unless it is to be quiet. Words that ask for the usage or the version are
 /// answered on the sink, and nothing is read.
 ///
-/// Nothing is said yet: `FrontEnding::say` does that, which takes the sink for it. The shelf keeps
-/// the file that it read last, for the text of a line, and the numbers of the graph, for the header
-/// of a file beside it. What the call makes of shelf and sink is `Fronts`, a record with a line on
-/// each of its fields.
-pub fn run_front<'a, S: Sizing + Drop, K: Outlet>(
+/// Nothing is said yet: `FrontEnding::say` does that, which takes the sink for it. What the call
+/// makes of shelf and sink is `Fronts`, a record with a line on each of its fields.
+pub fn run_front<'a, S: Explain, K: Outlet>(
     alloc: Global,
     words: &'a [String],
     is_quiet: bool,
-    mut shelf: S,
+    shelf: &mut S,
     sink: &mut K,
-) -> FrontEnding<'a, S>
-    ensures fronts { Fronts S.files S.steady S.faults S.reads K.written K.writes K.faults
+) -> FrontEnding<'a>
+    ensures fronts { Fronts S.files S.steady S.faults S.reads S.reason K.written K.writes K.faults
         (map string_bytes words.now) is_quiet result.is_abandoned result.status result.message
-        shelf result.shelf sink.old sink.new }
+        shelf.old shelf.new sink.old sink.new }
     // What is said is said of these words, and of this sink.
     ensures words { result.words.now ≡ words.now }
     ensures is_abandoned { result.is_abandoned ≡ K.is_abandoned sink.new }
@@ -66,17 +63,15 @@ pub fn run_front<'a, S: Sizing + Drop, K: Outlet>(
                 status,
                 message: message_on_answer(status, is_quiet, is_abandoned),
                 words,
-                shelf,
                 is_abandoned,
             }
         }
         None => {
-            let ending = run_ending(alloc, words, &mut shelf, sink);
+            let ending = run_ending(alloc, words, shelf, sink);
             FrontEnding {
                 status: ending.status,
                 message: message_on_run(ending, is_quiet),
                 words,
-                shelf,
                 is_abandoned: sink.is_abandoned(),
             }
         }

@@ -3,8 +3,7 @@ ghost use Rattle.std.specs.Prelude.{◌≡◌, [], IfErr, IfOk};
 ghost use Rattle.front_top.specs.Installed.{EndsOn};
 
 use crate::fronting::run_front;
-use crate::sizing::SizingShelf;
-use bench_top::outside::{DirShelf, KeepingShelf, LineSink, OutSink};
+use bench_top::outside::{DirShelf, LineSink, OutSink};
 use front_words::arguments::{Arguments, Refusal, read_arguments};
 use front_words::{is_quiet, say_unread_arguments};
 use std::rt::{Env, Files};
@@ -17,7 +16,7 @@ pub struct Ended<'a, R: Files + Print, E: Print> {
     /// The exit status.
     pub code: u8,
     /// The shelf after the run, with the files that were given.
-    pub shelf: SizingShelf<KeepingShelf<DirShelf<'a, R>>>,
+    pub shelf: DirShelf<'a, R>,
     /// The standard output after the run, with the bytes that it took.
     pub sink: OutSink<'a, R>,
     /// The standard error after the run, with the bytes that it took.
@@ -31,27 +30,27 @@ pub fn program<'a, R: Files + Print + Env + AllocGlobal, E: Print>(
     stream: &'a E,
 ) -> Ended<'a, R, E>
     ensures ends { IfOk result.read (λ read.
-        EndsOn read.asked.words result.code result.shelf.shelf.shelf result.sink result.errors) }
-    ensures given { IfErr result.read (λ _. result.shelf.shelf.shelf.given ≡ []) }
+        EndsOn read.asked.words result.code result.shelf result.sink result.errors) }
+    ensures given { IfErr result.read (λ _. result.shelf.given ≡ []) }
     ensures printed { IfErr result.read (λ _. result.sink.printed ≡ []) }
 {
     let alloc = runtime.alloc();
     let quiet = is_quiet(runtime);
     let mut errors = LineSink::new(stream);
     let mut sink = OutSink::new(runtime);
-    let new = SizingShelf::new(KeepingShelf::new(DirShelf::new(runtime)));
+    let mut shelf = DirShelf::new(runtime);
     let read = read_arguments(runtime, alloc);
-    let (code, shelf) = match &read {
+    let code = match &read {
         Ok(read) => {
-            let ending = run_front(alloc, &read.words, quiet, new, &mut sink);
+            let ending = run_front(alloc, &read.words, quiet, &mut shelf, &mut sink);
             ending.say(&mut errors);
-            (ending.status.code(), ending.shelf)
+            ending.status.code()
         }
         Err(refusal) => {
             if !quiet {
                 let _ = say_unread_arguments(&mut errors, "mcg", refusal);
             }
-            (refusal.code(), new)
+            refusal.code()
         }
     };
     Ended {

@@ -5,10 +5,9 @@
 //! `--help`, `-h`, `help` and `--version`, alone, and what asks for the page of a command, `--help`
 //! after it or one of the first three before it, are answered on standard output, and nothing is
 //! read. For all other words standard output and status are those of `run`. Main definitions, in
-//! specs/: `answer_of` of `front_words` (what such words are answered), `files_of` of `Files` (what
-//! each named file is read as), and `run_words` of `Words`, what is said of each ending, a function
-//! of the command line, the ending, the bytes of the file that was read last, the numbers of the
-//! graph (`Sizing`), and what the shelf and the sink know of their faults. Main promises: the
+//! specs/: `answer_of` of `front_words` (what such words are answered) and `run_words` of `Words`,
+//! what is said of each ending, a function of the command line, the ending, and whether nobody reads
+//! the output any more: the stop in the ending has what is known of the file. Main promises: the
 //! clauses of `run_front` and of `say`.
 //!
 //! Depends on `bench_top` for the run, on `front_words` for the words, and on `outside` for the
@@ -19,11 +18,9 @@ mod ending;
 mod fronting;
 mod installed;
 mod laws;
-mod sizing;
 mod speaking;
 
 pub use ending::{FrontEnding, Message};
 pub use fronting::run_front;
 pub use installed::{Ended, program};
 pub use laws::{said_law, table_law};
-pub use sizing::{Sizing, SizingShelf};

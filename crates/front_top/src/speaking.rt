@@ -1,14 +1,12 @@
 //! What is said of each ending.
 ghost use Rattle.std.specs.Prelude.{◌≡◌, [], map, string_bytes};
 ghost use Rattle.std.specs.Option.{option_map};
-ghost use Rattle.bench_top.specs.from_bench_tasks.Common.{asked, file_seen};
+ghost use Rattle.bench_top.specs.from_bench_tasks.Common.{bytes_carried};
 ghost use Rattle.front_words.specs.Saying.{Says};
-ghost use Rattle.front_top.specs.CluesSeen.{known_by};
-ghost use Rattle.front_top.specs.Files.{file_in};
-ghost use Rattle.front_top.specs.Words.{bad_words, kept_file_line, lost_words, refusal_words, stop_words, unread_words, run_words};
+ghost use Rattle.front_top.specs.Words.{bad_words, carried_line, lost_words, refusal_words, run_words, stop_words};
 
-use bench_top::bench_tasks::{Command, CommandFile, Stop, command_of, file_at};
-use bench_top::outside::{FailureReason, Sink};
+use bench_top::bench_tasks::{FaultyFile, Stop};
+use bench_top::outside::Sink;
 use bench_top::{RunEnding, Status};
 use front_words::refusals::Refusal;
 use front_words::{
@@ -20,19 +18,6 @@ use line_text::FaultKind;
 // The name of the program.
 const PROGRAM: &str = "mcg";
 
-/// What is known of the faults of a run.
-#[derive(Clone, Copy, Drop)]
-pub struct Clues<'a> {
-    /// The bytes of the file that was read last, if they are kept.
-    pub kept: Option<&'a [u8]>,
-    /// The numbers of the vertices and of the edges of the graph, if it was read.
-    pub sizes: Option<(u32, u32)>,
-    /// Why the last read failed, if it did.
-    pub reason: Option<FailureReason>,
-    /// Nobody reads the output any more.
-    pub is_abandoned: bool,
-}
-
 // Says nothing.
 fn say_nothing<E: Sink>(_errors: &mut E) -> Said
     ensures { Says E.written E.writes E.faults [] result _errors.old _errors.new }
@@ -40,84 +25,57 @@ fn say_nothing<E: Sink>(_errors: &mut E) -> Said
     Ok(())
 }
 
-// The line with that number of the file that was read last, if it is kept.
-fn line_kept<'a>(kept: Option<&'a [u8]>, line: u32) -> Option<&'a [u8]>
-    ensures { option_map (λ text. text.now) result ≡
-        kept_file_line (option_map (λ text. text.now) kept.entry) line }
+// The bytes of a bad file, if it is not too long.
+fn bytes_of<'a>(found: &'a FaultyFile<'_>) -> Option<&'a [u8]>
+    ensures { option_map (λ bytes. bytes.now) result ≡ bytes_carried found.now }
 {
-    line_at(kept?, line)
+    match &found.bytes {
+        Some(bytes) => Some(bytes.as_slice()),
+        None => None,
+    }
+}
+
+// The line with that number of these bytes, if there are any.
+fn line_of(bytes: Option<&[u8]>, line: u32) -> Option<&[u8]>
+    ensures { option_map (λ text. text.now) result ≡
+        carried_line (option_map (λ text. text.now) bytes.entry) line }
+{
+    line_at(bytes?, line)
 }
 
 // Says of a bad file which it is, where it is outside its format and how, and the line.
-fn say_bad<'a, E: Sink>(
-    errors: &mut E,
-    file: Option<CommandFile<'a>>,
-    line: u32,
-    kind: FaultKind,
-    kept: Option<&'a [u8]>,
-    sizes: Option<(u32, u32)>,
-) -> Said
-    ensures { Says E.written E.writes E.faults
-        (bad_words (option_map file_seen file.entry) line kind
-        (option_map (λ text. text.now) kept.entry) sizes) result errors.old errors.new }
+fn say_bad<E: Sink>(errors: &mut E, line: u32, kind: FaultKind, found: &FaultyFile<'_>) -> Said
+    ensures { Says E.written E.writes E.faults (bad_words line kind found.now) result errors.old
+        errors.new }
 {
-    match file {
-        Some(file) => {
-            let bad = BadFile {
-                name: file.name,
-                file_kind: file.kind,
-                line: line as u64,
-                kind,
-                beginning: kept,
-                sizes,
-                text: line_kept(kept, line),
-            };
-            say_bad_file(errors, PROGRAM, &bad)
-        }
-        None => say_nothing(errors),
-    }
+    let bytes = bytes_of(found);
+    let bad = BadFile {
+        name: found.file.name,
+        file_kind: found.file.kind,
+        line: line as u64,
+        kind,
+        beginning: bytes,
+        sizes: found.sizes,
+        text: line_of(bytes, line),
+    };
+    say_bad_file(errors, PROGRAM, &bad)
 }
 
-// Says of a file that could not be read which it is, and why.
-fn say_unread_file<E: Sink>(
-    errors: &mut E,
-    file: Option<CommandFile<'_>>,
-    reason: Option<FailureReason>,
-) -> Said
-    ensures { Says E.written E.writes E.faults (unread_words (option_map file_seen file.entry) reason) result
-        errors.old errors.new }
-{
-    match file {
-        Some(file) => say_unread(errors, PROGRAM, file.name, reason),
-        None => say_nothing(errors),
-    }
-}
-
-// The file at that place among those of the command, if there is a command.
-fn file_in(command: Option<Command<'_>>, place: u32) -> Option<CommandFile<'_>>
-    ensures { option_map file_seen result ≡ file_in (option_map asked command.entry) place }
-{
-    file_at(command?, place)
-}
-
-// Says of a stop of a command which file it is, and what is wrong with it.
-fn say_stop<'a, E: Sink>(
-    errors: &mut E,
-    command: Option<Command<'a>>,
-    stop: Option<Stop>,
-    clues: Clues<'a>,
-) -> Said
-    ensures { Says E.written E.writes E.faults
-        (stop_words (option_map asked command.entry) stop (known_by clues.entry)) result
-        errors.old errors.new }
+// Says of a stop which file it is, and what is wrong with it.
+fn say_stop<E: Sink>(errors: &mut E, stop: &Option<Stop<'_>>) -> Said
+    ensures { Says E.written E.writes E.faults (stop_words stop.now) result errors.old errors.new }
 {
     match stop {
-        Some(Stop::Bad { file, line, kind }) => {
-            let file = file_in(command, file);
-            say_bad(errors, file, line, kind, clues.kept, clues.sizes)
-        }
-        Some(Stop::ReadFault { file }) => {
-            say_unread_file(errors, file_in(command, file), clues.reason)
+        Some(
+            Stop::Bad {
+                line,
+                kind,
+                found,
+                ..
+            },
+        ) => say_bad(errors, *line, *kind, found),
+        Some(Stop::ReadFault { unread, .. }) => {
+            say_unread(errors, PROGRAM, unread.file.name, unread.reason)
         }
         Some(Stop::Memory) | None => say_nothing(errors),
     }
@@ -141,24 +99,22 @@ pub fn say_lost<E: Sink>(errors: &mut E) -> Said
 }
 
 /// Says what the ending of a run of these words means; nothing if it is done. Takes no memory.
-pub fn say_ending<'a, E: Sink>(
+pub fn say_ending<E: Sink>(
     errors: &mut E,
-    words: &'a [String],
-    ending: RunEnding,
-    clues: Clues<'a>,
+    words: &[String],
+    ending: &RunEnding<'_>,
+    is_abandoned: bool,
 ) -> Said
     ensures { Says E.written E.writes E.faults
-        (run_words (map string_bytes words.now) ending.status ending.stop ending.refusal
-        (known_by clues.entry)) result errors.old errors.new }
+        (run_words (map string_bytes words.now) ending.now.status ending.now.stop
+        ending.now.refusal is_abandoned) result errors.old errors.new }
 {
     match ending.status {
         Status::Done => say_nothing(errors),
         Status::Negative => say_refused(errors, ending.refusal),
         Status::Usage => say_unmatched(errors, Program::Mcg, words),
-        Status::ReadFault | Status::BadInput => {
-            say_stop(errors, command_of(words), ending.stop, clues)
-        }
-        Status::WriteFault if clues.is_abandoned => say_nothing(errors),
+        Status::ReadFault | Status::BadInput => say_stop(errors, &ending.stop),
+        Status::WriteFault if is_abandoned => say_nothing(errors),
         Status::WriteFault => say_lost(errors),
         Status::Memory => say_bytes(errors, b"mcg: memory ran out; nothing was written\n"),
     }

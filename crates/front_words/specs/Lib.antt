@@ -19,8 +19,6 @@ pub mod Answers
 pub mod Unmatched
 pub mod Shores
 pub mod Notes
-pub mod Numbers
-pub mod Headers
 pub mod Uncovered
 pub mod RefusedTrees
 pub mod RefusedEars

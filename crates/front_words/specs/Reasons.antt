@@ -2,7 +2,7 @@
 -- Stated by: front_words. Used by: mcg6_front_top.
 use Rattle.std.specs.Prelude.{ℕ, List, codes, Option, None, Some}
 use Rattle.outside.specs.declared.explain.FailureReason.{FailureReason}
-use Rattle.outside.specs.declared.explain.FailureReason.TheVariants.{Absent, Dangling, Folder, NotInFolder, Forbidden, LongName, LinkLoop, Socket, ManyOpen, Other}
+use Rattle.outside.specs.declared.explain.FailureReason.TheVariants.{Absent, Dangling, Folder, NotInFolder, Forbidden, LongName, LinkLoop, Socket, ManyOpen, NoMemory, Other}
 
 -- the words for a reason
 abbrev pub reason_words : Option FailureReason → List ℕ
@@ -16,4 +16,5 @@ reason_words (Some LongName) = codes "its name is too long"
 reason_words (Some LinkLoop) = codes "links lead around in a circle"
 reason_words (Some Socket) = codes "it is a socket, or a device that is not there"
 reason_words (Some ManyOpen) = codes "too many files are open"
+reason_words (Some NoMemory) = codes "the system has no memory for it"
 reason_words (Some Other) = codes "a read of it failed"

@@ -1,15 +1,38 @@
 -- The other shore of a cut, from the line that names one.
 -- Stated by: front_words.
 use Rattle.std.specs.Prelude.{ℕ, zero, suc, ◌+◌, ◌-◌, ◌==◌, ◌||◌, ◌&&◌, not, List, [], ◌++◌, Bool, false, true, fold, length, nat_le, nat_lt, codes, if◌then◌else◌, decimal, bytes_eq, Option, None, Some}
-use Rattle.front_words.specs.Numbers.{number_written, pieces_of}
+use Rattle.std.specs.List.{slice_split}
+use Rattle.line_text.specs.Common.{is_blank, number_of}
+
+-- the pieces of a line between its blanks: its words, and an empty one for each further blank
+abbrev pub pieces_of : (line : List ℕ) → List (List ℕ)
+pieces_of line = slice_split is_blank line
+
+-- the number, if there is one, is that of the vertex
+abbrev pub is_that : (vertex : ℕ) → Option ℕ → Bool
+is_that vertex None = false
+is_that vertex (Some found) = found == vertex
+
+-- the word is the number of that vertex
+abbrev pub is_vertex : (vertex : ℕ) → List ℕ → Bool
+is_vertex vertex word = is_that vertex (number_of word)
+
+-- the number, if there is one, is that of some vertex
+abbrev pub is_of_some : Option ℕ → Bool
+is_of_some None = false
+is_of_some (Some vertex) = nat_le 1 vertex && nat_le vertex 128
+
+-- the word is the number of some vertex
+abbrev pub is_some_vertex : List ℕ → Bool
+is_some_vertex word = is_of_some (number_of word)
 
 -- one of the words of the line is the number of that vertex
 unfoldable pub names : (line : List ℕ) → (vertex : ℕ) → Bool
-names line vertex = fold (λ found word. found || number_written word == vertex) false (pieces_of line)
+names line vertex = fold (λ found word. found || is_vertex vertex word) false (pieces_of line)
 
 -- the word is `cut` or the number of a vertex, or it is empty
 abbrev pub is_cut_word : List ℕ → Bool
-is_cut_word word = length word == 0 || (bytes_eq word (codes "cut") || (nat_le 1 (number_written word) && nat_le (number_written word) 128))
+is_cut_word word = length word == 0 || (bytes_eq word (codes "cut") || is_some_vertex word)
 
 -- each word of the line is `cut` or the number of a vertex
 unfoldable pub is_cut : (line : List ℕ) → Bool

@@ -18,6 +18,7 @@ pub fn reason_words(reason: Option<FailureReason>) -> &'static str
         Some(FailureReason::LinkLoop) => "links lead around in a circle",
         Some(FailureReason::Socket) => "it is a socket, or a device that is not there",
         Some(FailureReason::ManyOpen) => "too many files are open",
+        Some(FailureReason::NoMemory) => "the system has no memory for it",
         Some(FailureReason::Other) | None => "a read of it failed",
     }
 }

@@ -1,13 +1,14 @@
 //! The other shore of a cut, from the line that names one.
 ghost use Rattle.std.specs.Prelude.{◌≡◌, ◌+◌, ◌++◌, ◌<◌, ◌≤◌, ◌^◌, codes};
 ghost use Rattle.std.specs.Option.{option_map};
+ghost use Rattle.line_text.specs.Common.{is_blank};
 ghost use Rattle.front_words.specs.Saying.{Says};
-ghost use Rattle.front_words.specs.Shores.{highest_named, is_cut, is_cut_word, leaves_some, names, other_shore_note, others_text, plain_shore_note, shore_note, width};
+ghost use Rattle.front_words.specs.Shores.{highest_named, is_cut, is_cut_word, is_some_vertex, is_vertex, leaves_some, names, other_shore_note, others_text, plain_shore_note, shore_note, width};
 
-use crate::numbers::{is_blank, number_in};
 use crate::pieces::MessagePiece::{Number, Text};
 use crate::pieces::{Said, say};
 use crate::showing::say_bytes;
+use line_text::number;
 use outside::Sink;
 
 // The most vertices of a graph.
@@ -16,20 +17,46 @@ const MOST_VERTICES: u32 = 128;
 // The most bytes of a shore that are said, with the first word of its line.
 const MOST_OF_SHORE: u32 = 57;
 
+// Whether the byte is a space, a tab or a carriage return.
+fn is_blank(byte: u8) -> bool
+    ensures { result ≡ is_blank byte }
+{
+    matches!(byte, b' ' | b'\t' | b'\r')
+}
+
+// Whether the word is the number of that vertex.
+fn is_vertex(word: &[u8], vertex: u32) -> bool
+    ensures { result ≡ is_vertex vertex word.now }
+{
+    match number(word) {
+        Some(found) => found == vertex,
+        None => false,
+    }
+}
+
+// Whether the word is the number of some vertex.
+fn is_some_vertex(word: &[u8]) -> bool
+    ensures { result ≡ is_some_vertex word.now }
+{
+    match number(word) {
+        Some(vertex) => 1 <= vertex && vertex <= MOST_VERTICES,
+        None => false,
+    }
+}
+
 // Whether one of the words of the line is the number of that vertex.
 fn names(line: &[u8], vertex: u32) -> bool
     ensures { result ≡ names line.now vertex }
 {
     line.split(|byte| is_blank(*byte))
-        .fold(false, |found, word| found || number_in(word) == vertex)
+        .fold(false, |found, word| found || is_vertex(word, vertex))
 }
 
 // Whether the word is `cut` or the number of a vertex, or is empty.
 fn is_cut_word(word: &[u8]) -> bool
     ensures { result ≡ is_cut_word word.now }
 {
-    let vertex = number_in(word);
-    word.is_empty() || (word == b"cut".as_slice() || (1 <= vertex && vertex <= MOST_VERTICES))
+    word.is_empty() || (word == b"cut".as_slice() || is_some_vertex(word))
 }
 
 // Whether each word of the line is `cut` or the number of a vertex.

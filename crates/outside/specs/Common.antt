@@ -1,10 +1,9 @@
 -- The definitions of this crate, passed on from one place to the crates above. Declares nothing.
 pub use Rattle.outside.specs.Faults.{next_fault, faults_after, MayCount, next_call, Rose}
 pub use Rattle.outside.specs.Limits.{most_bytes, most_line}
-pub use Rattle.outside.specs.Shelf.{NamedFile, file_named, HoldsLonger, Answer, answer_seen, AnswersInTurn, ReadsInTurn, ReadsFirst, TellsFile, IsLonger}
+pub use Rattle.outside.specs.Shelf.{NamedFile, file_named, HoldsLonger, Answer, answer_seen, bytes_in, AnswersInTurn, ReadsInTurn, ReadsFirst, TellsFile, IsLonger}
 pub use Rattle.outside.specs.Sink.{appended, taken_by, WritesTake, IsWritten, IsCutOff}
-pub use Rattle.outside.specs.Keeping.{bytes_kept, IsFileOf, bytes_in, KeepsRead}
-pub use Rattle.outside.specs.Noting.{NotesFiles, named_texts, keeping-notes}
+pub use Rattle.outside.specs.Noting.{NotesFiles, named_texts}
 pub use Rattle.outside.specs.Source.{prepended, IsAtEnd, given_by}
 pub use Rattle.outside.specs.MemShelf.{ShelfState, FailsNext, MayTakeBytes, MayAnswer, IsRead}
 pub use Rattle.outside.specs.MemSink.{SinkState, share, IsWrite}

@@ -2,7 +2,6 @@ pub mod Faults
 pub mod Limits
 pub mod Shelf
 pub mod Sink
-pub mod Keeping
 pub mod Noting
 pub mod Source
 pub mod MemShelf

@@ -26,6 +26,11 @@ abbrev pub answer_seen : Result (Vec ℕ) ShelfFault → Answer
 answer_seen (Ok bytes) = Ok bytes.items
 answer_seen (Err fault) = Err fault
 
+-- the bytes that a read returned, if it returned any
+abbrev pub bytes_in : Answer → Option (List ℕ)
+bytes_in (Ok bytes) = Some bytes
+bytes_in (Err fault) = None
+
 -- reads of the first of these names had these results, one after another, and lead from the first
 -- shelf to the last
 abbrev pub AnswersInTurn : {S : Type 0} → (S → List ℕ → Answer → S → Type 0) → List (List ℕ) → List Answer → S → S → Type 0

@@ -1,6 +1,7 @@
 //! Why a read failed.
 ghost use Rattle.std.specs.Prelude.{◌≡◌};
 ghost use Rattle.std.specs.declared.option.Option.{Option};
+ghost use Rattle.std.specs.declared.option.Option.TheVariants.{None};
 
 use crate::Shelf;
 
@@ -25,6 +26,8 @@ pub enum FailureReason {
     Socket,
     /// Too many files are open.
     ManyOpen,
+    /// The system has no memory to open or read it.
+    NoMemory,
     /// Something else went wrong, such as an error of the device.
     Other,
 }
@@ -40,4 +43,41 @@ pub trait Explain: Shelf {
     /// Why the last read failed, if it did and the shelf knows. Takes no memory.
     fn reason(&self) -> Option<FailureReason>
         ensures { result ≡ reason self.now };
+}
+
+/// How the caller of a shelf learns why its last read failed. A call that takes any shelf takes one
+/// of these with it: `Explained` for a shelf that can say it, and `Unexplained` for any other.
+pub trait Reasons<S> {
+    ghost use Rattle.outside.specs.declared.explain.FailureReason.{FailureReason};
+
+    /// Why the last read failed, if it did and that is known.
+    ghost reason: { S → Option FailureReason };
+
+    /// Why the last read of the shelf failed, if it did and that is known. Takes no memory.
+    fn reason(&self, shelf: &S) -> Option<FailureReason>
+        ensures { result ≡ reason shelf.now };
+}
+
+/// The shelf says why its last read failed.
+#[derive(Clone, Copy, Debug, Drop)]
+pub struct Explained;
+
+impl<S: Explain> Reasons<S> for Explained {
+    ghost reason = { S.reason };
+
+    fn reason(&self, shelf: &S) -> Option<FailureReason> {
+        shelf.reason()
+    }
+}
+
+/// It is not known why the last read failed.
+#[derive(Clone, Copy, Debug, Drop)]
+pub struct Unexplained;
+
+impl<S> Reasons<S> for Unexplained {
+    ghost reason = { λ _. None };
+
+    fn reason(&self, _shelf: &S) -> Option<FailureReason> {
+        None
+    }
 }

@@ -10,7 +10,7 @@
 //! result and every next state, with planned errors: they are for tests. `DirShelf`, `InSource`,
 //! `OutSink` and `LineSink` (standard error) are the runtime's, the trusted edge. They retry a call
 //! that a signal interrupts, up to 1,024 times. `emit` writes a whole output. For messages there
-//! are `KeepingShelf` (`Keeping`), `Explain` and `Outlet`.
+//! are `Explain`, `Reasons`, `Inlet` and `Outlet`.
 //!
 //! Depends on `std` alone. The contracts follow POSIX's `read` and `write`.
 #![tactic(auto)]
@@ -23,7 +23,6 @@ mod explain;
 mod given;
 mod in_source;
 mod inlet;
-mod keeping_shelf;
 mod limits;
 mod line_sink;
 mod mem_shelf;
@@ -44,11 +43,10 @@ pub use count_sink::CountSink;
 pub use dir_shelf::DirShelf;
 pub use edge::TracedReader;
 pub use emitting::emit;
-pub use explain::{Explain, FailureReason};
+pub use explain::{Explain, Explained, FailureReason, Reasons, Unexplained};
 pub use given::Given;
 pub use in_source::InSource;
 pub use inlet::Inlet;
-pub use keeping_shelf::{Keeping, KeepingShelf};
 pub use limits::{MOST_BYTES, MOST_LINE};
 pub use line_sink::LineSink;
 pub use mem_shelf::MemShelf;

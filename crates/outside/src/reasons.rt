@@ -33,15 +33,25 @@ pub(crate) fn reason_of(error: &Error) -> FailureReason {
         ErrorKind::PermissionDenied => FailureReason::Forbidden,
         ErrorKind::InvalidFilename => FailureReason::LongName,
         ErrorKind::FilesystemLoop => FailureReason::LinkLoop,
+        ErrorKind::OutOfMemory => FailureReason::NoMemory,
         _ => reason_of_number(error.raw_os_error().unwrap_or(0)),
     }
 }
 
-/// Why the file of that name was not opened: `Dangling` if a link has that name and leads nowhere.
+// Whether a link has that name.
+fn is_link<R: Files>(runtime: &R, name: &str) -> bool {
+    match fs::symlink_metadata(runtime, name) {
+        Ok(metadata) => metadata.is_symlink(),
+        Err(_) => false,
+    }
+}
+
+/// Why the file of that name was not opened. The error is the same for a name that is not there and
+/// for a link that leads nowhere, so this alone is looked up after the failed call: `Dangling` if a
+/// link has that name.
 pub(crate) fn reason_unopened<R: Files>(runtime: &R, name: &str, error: &Error) -> FailureReason {
     match reason_of(error) {
-        FailureReason::Absent if fs::symlink_metadata(runtime, name).is_ok() =>
-            FailureReason::Dangling,
+        FailureReason::Absent if is_link(runtime, name) => FailureReason::Dangling,
         reason => reason,
     }
 }

@@ -29,51 +29,53 @@ reported-bad result bytes before now reports written = grind arith
 pub returns-in-Ok-emit : goal.returns-in-Ok-emit
 returns-in-Ok-emit g c =
     let report = c.in-Ok.report in
-    let made = c.in-Ok.ensures in
     let got = c.gather-gathered in
-    let others = not-reported report.status made.reported in
+    let judged = c.report_on-report in
+    let is = c.in-Ok.is in
+    let others = not-reported report.status (rw is at judged.ensures.reported) in
     let now = subst (λ (l : List ℕ). g.K.Sink.written c.emit.new.sink ≡ appended (g.K.Sink.written c.args.sink.now) l) c.deref.ensures.value c.in-Ok-emit.ensures.ok in
-    rw c.stop_of-stop.ensures
-    (performed g.S.Shelf.files g.S.Shelf.steady g.S.Shelf.faults g.S.Shelf.reads g.K.Sink.written g.K.Sink.writes g.K.Sink.faults (asked c.args.command) got.result c.args.shelf.now got.new.shelf
+    rw judged.ensures.stop
+    (performed g.S.Shelf.files g.S.Shelf.steady g.S.Shelf.faults g.S.Shelf.reads g.R.Reasons.reason g.K.Sink.written g.K.Sink.writes g.K.Sink.faults (asked c.args.command) got.result c.args.shelf.now got.new.shelf
     c.args.sink.now c.emit.new.sink report.status report.refusal
-    (record { loads = got.ensures.loads; made = got.ensures.reads; answered = got.ensures.answered; asked = got.ensures.asked })
+    (record { loads = got.ensures.loads; made = got.ensures.reads; answered = got.ensures.answered; carries = got.ensures.carries; sized = got.ensures.sized; asked = got.ensures.asked })
     (record {
       usage = others.0;
-      read_fault = (λ e. absurd (others.1 e), λ fault. absurd (read-not-fault got.result made.read fault));
-      whole = made.whole;
-      read = λ has. inl made.read;
-      refuses = made.refuses;
-      wrote = wrote-report g.K.Sink.written g.K.Sink.writes (GivesGathered got.result) report.status report.bytes.items c.args.sink.now c.emit.new.sink made.reported made.gives now
+      read_fault = (λ e. absurd (others.1 e), λ fault. absurd (read-not-fault got.result (rw is at judged.ensures.read) fault));
+      whole = (rw is at judged.ensures.whole);
+      read = λ has. inl (rw is at judged.ensures.read);
+      refuses = (rw is at judged.ensures.refuses);
+      wrote = wrote-report g.K.Sink.written g.K.Sink.writes (GivesGathered got.result) report.status report.bytes.items c.args.sink.now c.emit.new.sink (rw is at judged.ensures.reported) (rw is at judged.ensures.gives) now
           (subst (λ (l : List ℕ). IsWritten g.K.Sink.writes l c.args.sink.now c.emit.new.sink) c.deref.ensures.value c.in-Ok-emit.ensures.whole);
       write_fault = λ e. absurd (others.2 e);
-      bad = λ e. reported-bad got.result report.bytes.items (g.K.Sink.written c.args.sink.now) (g.K.Sink.written c.emit.new.sink) (made.bad e) now;
+      bad = λ e. reported-bad got.result report.bytes.items (g.K.Sink.written c.args.sink.now) (g.K.Sink.written c.emit.new.sink) ((rw is at judged.ensures.bad) e) now;
       is_refused = report.refused;
       refusal = reported-refusal report.status report.refusal report.bytes.items (g.K.Sink.written c.args.sink.now) (g.K.Sink.written c.emit.new.sink) report.refused report.told now;
-      placed = made.placed;
+      placed = (rw is at judged.ensures.placed);
     }))
 
 -- writing the report failed
 pub returns-in-Ok : goal.returns-in-Ok
 returns-in-Ok g c =
     let report = c.in-Ok.report in
-    let made = c.in-Ok.ensures in
     let got = c.gather-gathered in
+    let judged = c.report_on-report in
+    let is = c.in-Ok.is in
     let cut = c.in-Err-emit.ensures.err in
-    rw c.stop_of-stop.ensures
-    (performed g.S.Shelf.files g.S.Shelf.steady g.S.Shelf.faults g.S.Shelf.reads g.K.Sink.written g.K.Sink.writes g.K.Sink.faults (asked c.args.command) got.result c.args.shelf.now got.new.shelf
+    rw judged.ensures.stop
+    (performed g.S.Shelf.files g.S.Shelf.steady g.S.Shelf.faults g.S.Shelf.reads g.R.Reasons.reason g.K.Sink.written g.K.Sink.writes g.K.Sink.faults (asked c.args.command) got.result c.args.shelf.now got.new.shelf
     c.args.sink.now c.emit.new.sink WriteFault None
-    (record { loads = got.ensures.loads; made = got.ensures.reads; answered = got.ensures.answered; asked = got.ensures.asked })
+    (record { loads = got.ensures.loads; made = got.ensures.reads; answered = got.ensures.answered; carries = got.ensures.carries; sized = got.ensures.sized; asked = got.ensures.asked })
     (record {
       usage = λ e. cc e;
-      read_fault = (λ e. cc e, λ fault. absurd (read-not-fault got.result made.read fault));
+      read_fault = (λ e. cc e, λ fault. absurd (read-not-fault got.result (rw is at judged.ensures.read) fault));
       whole = λ settled. grind arith;
-      read = λ has. inl made.read;
+      read = λ has. inl (rw is at judged.ensures.read);
       refuses = λ e. cc e;
       wrote = record {
         status = report.status;
         output = report.bytes.items;
         count = cut.0;
-        right = made.gives;
+        right = (rw is at judged.ensures.gives);
         now = subst (λ (l : List ℕ). g.K.Sink.written c.emit.new.sink ≡ appended (g.K.Sink.written c.args.sink.now) (take cut.0 l)) c.deref.ensures.value cut.2;
         cut = subst (λ (l : List ℕ). IsCutOff g.K.Sink.writes l cut.0 c.args.sink.now c.emit.new.sink) c.deref.ensures.value cut.3;
       };
@@ -89,19 +91,21 @@ pub returns : goal.returns
 returns g c =
     let status = c.in-Err.status in
     let got = c.gather-gathered in
-    let others = no-report status c.in-Err.ensures.stops in
-    let fault = c.in-Err.ensures.read_fault in
-    rw c.stop_of-stop.ensures
-    (performed g.S.Shelf.files g.S.Shelf.steady g.S.Shelf.faults g.S.Shelf.reads g.K.Sink.written g.K.Sink.writes g.K.Sink.faults (asked c.args.command) got.result c.args.shelf.now got.new.shelf
+    let judged = c.report_on-report in
+    let stops = rw c.in-Err.is at judged.ensures.stops in
+    let others = no-report status stops in
+    let fault = rw c.in-Err.is at judged.ensures.read_fault in
+    rw judged.ensures.stop
+    (performed g.S.Shelf.files g.S.Shelf.steady g.S.Shelf.faults g.S.Shelf.reads g.R.Reasons.reason g.K.Sink.written g.K.Sink.writes g.K.Sink.faults (asked c.args.command) got.result c.args.shelf.now got.new.shelf
     c.args.sink.now c.args.sink.now status None
-    (record { loads = got.ensures.loads; made = got.ensures.reads; answered = got.ensures.answered; asked = got.ensures.asked })
+    (record { loads = got.ensures.loads; made = got.ensures.reads; answered = got.ensures.answered; carries = got.ensures.carries; sized = got.ensures.sized; asked = got.ensures.asked })
     (record {
       usage = others.usage;
       read_fault = (λ e. fault.0 (ap Err e), λ failed. err-is (fault.1 failed));
       whole = λ settled. absurd (others.settled settled);
       read = λ has. inr (fault.0 (ap Err (others.read (g.S.Shelf.steady c.args.shelf.now) has)));
       refuses = λ e. absurd (others.negative e);
-      wrote = wrote-nothing g.K.Sink.written g.K.Sink.writes (GivesGathered got.result) status c.args.sink.now c.in-Err.ensures.stops;
+      wrote = wrote-nothing g.K.Sink.written g.K.Sink.writes (GivesGathered got.result) status c.args.sink.now stops;
       write_fault = λ e. absurd (others.write_fault e);
       bad = λ e. absurd (others.bad e);
       is_refused = others.is_refused;

@@ -1,4 +1,4 @@
 use Rattle.bench_top.proofs.running.run.Goals as goal
 
 pub returns : goal.returns
-returns g c = c.run_ending.ensures.runs
+returns g c = c.run_by.ensures.runs

@@ -1,6 +1,6 @@
 use Rattle.front_top.proofs.speaking.say_bad.Goals as goal
 
-pub returns-in-Some : goal.returns-in-Some
-returns-in-Some g c =
-    let said = rw c.line_kept.ensures at c.say_bad_file.ensures in
-    rw c.in-Some.is said
+pub returns : goal.returns
+returns g c =
+    let said = rw (c.line_of.ensures, c.bytes_of.ensures) at c.say_bad_file.ensures in
+    said

@@ -2,7 +2,7 @@ use Rattle.std.proofs.Common.{rules, ◌&&◌, true}
 use Rattle.std.proofs.lemmas.Iterator.Consumers.{fold_from_yields_List}
 use Rattle.std.proofs.lemmas.Iterator.Splits.{YieldsList-from_slice_split}
 use borrow.Author.Tests.{tests}
-use Rattle.front_words.specs.Numbers.{is_blank_byte}
+use Rattle.line_text.specs.Common.{is_blank}
 use Rattle.front_words.specs.Shores.{is_cut, is_cut_word}
 use Rattle.front_words.proofs.shores.is_cut.Goals as goal
 
@@ -10,5 +10,5 @@ pub returns : goal.returns
 unfolding is_cut
 returns c =
     fold_from_yields_List _ (λ fits word. fits && is_cut_word word) true c.fold.result c.fold.ensures.ran
-    (YieldsList-from_slice_split _ is_blank_byte c.args.line.now (cc) (cc) (cc) (λ x r q k. search (rules, tests)))
+    (YieldsList-from_slice_split _ is_blank c.args.line.now (cc) (cc) (cc) (λ x r q k. search (rules, tests)))
     (λ a x b q k. search (rules, tests))

@@ -12,5 +12,4 @@ returns-in-Lost-clause-says g c = rw c.in-Lost.is (record { answer = c.say_lost.
 
 pub returns-in-Ending-clause-says : goal.returns-in-Ending-clause-says
 returns-in-Ending-clause-says g c =
-    let said = rw (c.kept.ensures, c.sizes.ensures, c.reason.ensures) at c.say_ending.ensures in
-    rw c.in-Ending.is (record { answer = c.say_ending.result; says = said })
+    rw c.in-Ending.is (record { answer = c.say_ending.result; says = c.say_ending.ensures })
