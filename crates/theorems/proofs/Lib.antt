@@ -39,6 +39,7 @@ pub mod JoinedMatchings
 pub mod LaminarFamilies
 pub mod LeafKindLists
 pub mod LinesTold
+pub mod MatchingLinesExist
 pub mod ListMembers
 pub mod LoneSteps
 pub mod LoopedEdges
