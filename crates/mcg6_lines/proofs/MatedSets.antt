@@ -40,12 +40,15 @@ module _ (g : Graph) (is : IsGraph g) (removed : List ℕ) (mate : List ℕ) (se
   has = paired none whole.m whole.mates
 
   -- the vertices without a mate, and twice the edges
-  pub exposed_and_paired : count g.order (λ v. numbers mate v == 0) + 2 * count (size g) (mem es) ≡ g.order
+  exposed_and_paired : count g.order (λ v. numbers mate v == 0) + 2 * count (size g) (mem es) ≡ g.order
   exposed_and_paired =
       let a = exposed_mates g is none (mem es) (numbers mate) has in
       let b = count_complement g.order none in
       let c = total_zero g.order in
       omega arith
+
+  pub half_paired : (k : ℕ) × (count g.order (λ v. numbers mate v == 0) + 2 * k ≡ g.order)
+  half_paired = (count (size g) (mem es), exposed_and_paired)
 
   -- the rest of the vertices is C
   module _ (all rest : List ℕ) (edges : ℕ) (outer_in : IsRisingIn 128 sets.outer) (inner_in : IsRisingIn 128 sets.inner) (rest_in : IsRisingIn 128 rest)

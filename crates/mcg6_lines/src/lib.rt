@@ -7,7 +7,7 @@
 //! components (`elementary_lines`), the line of a maximum matching with the Gallai-Edmonds sets
 //! (`IsMatchingLine`), the canonical text of its graph file, or the line itself if the graph has a
 //! property and nothing if it has not (`IsSelected`). What is told of a line is one, except that
-//! `matching` may write any maximum matching (`IsFree`, `AreAlike`): two first reasons differ at
+//! `matching` may write any maximum matching (`is_free`, `AreAlike`): two first reasons differ at
 //! most in the Berge set (`definition_laws`), and the numbers of bricks and braces depend on no
 //! choice by the law of pairings of `move_laws` (Lovász, "Matching structure and the matching
 //! lattice", 1987).

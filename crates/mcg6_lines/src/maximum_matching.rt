@@ -1,5 +1,5 @@
 //! A maximum matching, by the mates of the vertices, and the Gallai-Edmonds sets.
-ghost use Rattle.std.specs.Prelude.{◌≡◌, ◌+◌, ◌==◌, IfOk, length};
+ghost use Rattle.std.specs.Prelude.{◌≡◌, ◌+◌, ◌≤◌, ◌==◌, IfOk, length};
 ghost use Rattle.allowed_edges.specs.from_counting.Common.{count};
 ghost use Rattle.allowed_edges.specs.from_match_search.Common.{numbers};
 ghost use Rattle.mcg6_lines.specs.MatchingLines.{IsMatchedWith};
@@ -52,7 +52,8 @@ impl MaximumMatching {
 // How many of the vertices 1 to n have no mate.
 fn count_exposed(mate: &[u32], n: u32) -> u32
     requires { length mate.now ≡ n + 1 }
-    ensures { result ≡ count n (λ v. numbers mate.now v == 0) }
+    ensures is { result ≡ count n (λ v. numbers mate.now v == 0) }
+    ensures few { result ≤ n }
 {
     let mut exposed = 0;
     for done in 0..n {
