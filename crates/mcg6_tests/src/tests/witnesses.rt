@@ -16,11 +16,7 @@ static ROWS: [(Query, &str, Answer); 8] = [
         Ok("C~ 2 1-2 3-4 D A C 1 2 3 4\n"),
     ),
     (Query::Matching, "Bw", Ok("Bw 1 1-2 D 1 2 3 A C\n")),
-    (
-        Query::Matching,
-        "C]\n",
-        Ok("C] 2 1-3 2-4 D A C 1 2 3 4\n"),
-    ),
+    (Query::Matching, "C]\n", Ok("C] 2 1-3 2-4 D A C 1 2 3 4\n")),
     (Query::Matching, "C~~", Err(FaultKind::Extra)),
     (Query::Matching, "\n", Err(FaultKind::Missing)),
 ];
