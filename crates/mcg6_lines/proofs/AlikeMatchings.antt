@@ -1,8 +1,8 @@
 -- Two lines on maximum matchings of one graph have the number of edges and the three sets in common:
 -- a maximum matching has as many edges as any other, and the graph determines the sets.
-use Rattle.allowed_edges.proofs.from_counting.Common.{◌≡◌, ◌∙◌, ◌≤◌, ℕ, List, ap, sym, arith, count, same_rising_list, same_tests, none, Lists, Set}
+use Rattle.allowed_edges.proofs.from_counting.Common.{◌≡◌, ◌∙◌, ℕ, List, sym, arith, count, same_rising_list, same_tests, none, Lists, Set}
 use Rattle.graph_core.proofs.Common.{Graph, InA, InC, InD, IsMaximum, size}
-use Rattle.mcg6_lines.specs.MatchingLines.{DifferInEdges, IsMatchedWith, IsMatchingLine, matched_line}
+use Rattle.mcg6_lines.specs.MatchingLines.{DifferInEdges, IsMatchingLine, matched_line}
 
 -- an increasing list is determined by what it lists
 pub lists-once : (n : ℕ) (xs ys : List ℕ) (P : ℕ → Type 0) → Lists n xs P → Lists n ys P → xs ≡ ys

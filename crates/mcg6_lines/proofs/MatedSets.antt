@@ -1,8 +1,8 @@
 -- What the search for a maximum matching returns: the mates are those of a maximum matching, as a
 -- list of edges, and its frame gives the Gallai-Edmonds sets. The vertices without a mate and twice
 -- the edges make all vertices.
-use Rattle.allowed_edges.proofs.from_counting.Common.{◌≡◌, ◌∙◌, ◌==◌, ◌&&◌, ◌||◌, ◌+◌, ◌*◌, ◌≤◌, ℕ, Bool, List, [], true, not, refl, ap, sym, subst, arith, count, count_complement, total_zero, fun_ext, mem, none, everything, rising_list, rising_list-rises, IsRisingIn, Within, Set}
-use Rattle.graph_core.proofs.Common.{Attains, Graph, InA, InC, InD, IsGraph, IsMatching, IsMaximum, degree, degree_congr, size}
+use Rattle.allowed_edges.proofs.from_counting.Common.{◌≡◌, ◌∙◌, ◌==◌, ◌&&◌, ◌||◌, ◌+◌, ◌*◌, ℕ, List, [], true, not, refl, ap, sym, subst, arith, count, count_complement, total_zero, fun_ext, mem, none, everything, rising_list, rising_list-rises, IsRisingIn, Within, Set}
+use Rattle.graph_core.proofs.Common.{Graph, InA, InD, IsGraph, degree, degree_congr, size}
 use Rattle.allowed_edges.specs.from_match_search.Common.{HasFrame, HasMates, numbers}
 use Rattle.allowed_edges.specs.from_match_search.declared.answer.FinalSets.{FinalSets}
 use Rattle.allowed_edges.proofs.from_match_search.SameMates.{exposed_mates, mates_degree}

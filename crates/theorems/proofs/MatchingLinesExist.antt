@@ -1,7 +1,7 @@
 -- There is a line of `matching` for every multigraph: some matching is maximum, each vertex that it
 -- meets has the other end of its edge as its mate, and the three sets are there. The matching
 -- attains the bound of Berge at A.
-use Rattle.tree_check.proofs.from_counting.Common.{◌≡◌, ◌≢◌, ◌∙◌, ℕ, ◌≤◌, List, true, refl, sym, subst, inl, inr, arith, cases_eq, count, mem, mem-rising_list, none, rising_list, Set, Within}
+use Rattle.tree_check.proofs.from_counting.Common.{◌≡◌, ◌≢◌, ◌∙◌, ℕ, ◌≤◌, List, true, refl, sym, inl, inr, arith, cases_eq, count, mem, mem-rising_list, none, rising_list, Set, Within}
 use Rattle.graph_core.proofs.Common.{edge_at, maximum_exists, Graph, HasEnds, InA, InC, InD, IsGraph, IsMatching, IsMultigraph, degree, size}
 use Rattle.match_search.specs.Common.{HasMates}
 use Rattle.bench_top.specs.from_mcg6_lines.MatchingLines.{IsMatchingLine, matched_line}

@@ -1,4 +1,4 @@
-use Rattle.allowed_edges.proofs.from_counting.Common.{◌≡◌, ◌∙◌, ◌&&◌, ◌==◌, ◌+◌, ◌*◌, ℕ, List, Bool, not, ap, ap₂, sym, subst, arith, count, everything, mem, rising_list, Within}
+use Rattle.allowed_edges.proofs.from_counting.Common.{◌≡◌, ◌∙◌, ◌&&◌, ◌==◌, ℕ, List, Bool, not, ap, ap₂, sym, subst, arith, count, everything, mem, rising_list, Within}
 use Rattle.allowed_edges.specs.from_match_search.Common.{numbers}
 use Rattle.mcg6_lines.proofs.MatedSets.{half_paired, matched_with}
 use Rattle.mcg6_lines.proofs.maximum_matching.MaximumMatching.of.Goals as goal
