@@ -2,7 +2,7 @@
 -- the verdict gives a value that the graph determines. A rising list is determined by its
 -- members, the number of edges of a maximum matching by there being none with more, and the kind
 -- by the sides and the first candidate.
-use Rattle.move_text.proofs.from_counting.Common.{◌≡◌, ◌∙◌, ◌↔◌, ℕ, List, ◌++◌, Bool, Option, Some, None, refl, sym, ap, arith, codes, IsTrue, same_tests, same_rising_list, Lists}
+use Rattle.move_text.proofs.from_counting.Common.{◌≡◌, ◌∙◌, ◌↔◌, ℕ, List, ◌++◌, Bool, Option, Some, None, refl, sym, ap, arith, codes, IsTrue, same_tests}
 use Rattle.graph_core.proofs.Common.{Graph, IsBipartite, IsMultigraph, size, InA, InC, InD, Allowed, IsVerdict, reason_of, reason-uncovered, missed_edges}
 use Rattle.graph_core.specs.declared.verdict.Verdict.{Verdict}
 use Rattle.graph_core.specs.declared.verdict.Verdict.TheVariants.{Covered, NotCovered}
@@ -10,13 +10,10 @@ use Rattle.mcg6_lines.specs.from_report_text.Common.{analysis_text, graph_lines,
 use Rattle.mcg6_lines.specs.from_report_text.declared.analyses.AnalysisLines.{AnalysisLines}
 use Rattle.mcg6_lines.specs.from_report_text.declared.structures.Structure.{Structure}
 use Rattle.bench_reports.specs.from_bench_outcomes.Common.{HasMaximum, IsAnalysis, TellsStructure, MayBeBerge}
+use Rattle.mcg6_lines.proofs.AlikeMatchings.{lists-once}
 use Rattle.bench_top.specs.Fixed.{DifferAtMostIn}
 use Rattle.bench_top.proofs.AlikeReasons.{reason-alike}
 use Rattle.bench_top.proofs.AlikeTexts.{alike-along, alike-behind}
-
--- a rising list is determined by what it lists
-lists-once : (n : ℕ) (xs ys : List ℕ) (P : ℕ → Type 0) → Lists n xs P → Lists n ys P → xs ≡ ys
-lists-once n xs ys P one two = grind (arith, same_rising_list n xs ys one.rising two.rising, same_tests)
 
 answers-once : (a b : Bool) (P : Type 0) → (IsTrue a ↔ P) → (IsTrue b ↔ P) → a ≡ b
 answers-once a b P one two = same_tests a b (λ is. two.1 (one.0 is)) (λ is. one.1 (two.0 is))

@@ -43,6 +43,20 @@ component, and its vertices in the graph. Graphs without a perfect matching have
 Example: mcg6 elementary examples/small.g6
 ";
 
+/// The page of `matching`.
+pub const MATCHING: &str =
+    "  matching [skip] [FILE]       a line for each graph: a maximum matching, and D, A and C
+
+The list has a graph in graph6 on each line, and is FILE or, without it, standard input.
+With skip, bad lines are left out and named at the end; the status is then 4.
+A line has the graph6 text, the number of edges of a maximum matching, these edges as
+A-B, and the Gallai-Edmonds sets: D and its vertices, A and its vertices, C and its
+vertices. G - A has more odd components than A has vertices, by as many as the matching
+misses, so no matching is larger. Any maximum matching may be written.
+
+Example: mcg6 matching examples/small.g6
+";
+
 /// The page of `graph`.
 pub const GRAPH: &str = "  graph [FILE]                 the file of one graph, for mcg
 
@@ -85,6 +99,7 @@ pub fn list_page(command: &str) -> Option<&'static str>
         "kinds" => Some(KINDS),
         "leaves" => Some(LEAVES),
         "elementary" => Some(ELEMENTARY),
+        "matching" => Some(MATCHING),
         "graph" => Some(GRAPH),
         "select" => Some(SELECT),
         "encode" => Some(ENCODE),

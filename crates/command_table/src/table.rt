@@ -128,7 +128,7 @@ static ROWS: [Row; 12] = [
 ];
 
 /// The table of `mcg6`.
-static LIST_ROWS: [Row; 6] = [
+static LIST_ROWS: [Row; 7] = [
     Row {
         command: "kinds",
         words: &[],
@@ -156,6 +156,12 @@ static LIST_ROWS: [Row; 6] = [
         words: &[],
         optional: &[RowWord::Literal("skip"), RowWord::File("FILE", "a FILE")],
         line: "  elementary [skip] [FILE]     a line for each elementary component, as a graph\n",
+    },
+    Row {
+        command: "matching",
+        words: &[],
+        optional: &[RowWord::Literal("skip"), RowWord::File("FILE", "a FILE")],
+        line: "  matching [skip] [FILE]       a line for each graph: a maximum matching, and D, A and C\n",
     },
     Row {
         command: "graph",
@@ -217,6 +223,7 @@ const LIST_USAGE: &str = "usage: mcg6 COMMAND WORDS.. <LIST
   kinds [skip] [FILE]          a line for each graph: its kind, its bricks and its braces
   leaves [ORDER] [skip] [FILE] a line for each leaf of its decomposition, as a graph
   elementary [skip] [FILE]     a line for each elementary component, as a graph
+  matching [skip] [FILE]       a line for each graph: a maximum matching, and D, A and C
   graph [FILE]                 the file of one graph, for mcg
   select WHAT [skip] [FILE]    the lines whose graph has a property
   encode FILE                  the line of a file for mcg; parallel edges count once

@@ -118,12 +118,15 @@ rows-end = (
     (
       row-ends (codes "elementary") [] skip_file (codes "a line for each elementary component, as a graph"),
       (
-        row-ends (codes "graph") [] file (codes "the file of one graph, for mcg"),
+        row-ends (codes "matching") [] skip_file (codes "a line for each graph: a maximum matching, and D, A and C"),
         (
-          row-ends (codes "select") (what ∷ []) skip_file (codes "the lines whose graph has a property"),
+          row-ends (codes "graph") [] file (codes "the file of one graph, for mcg"),
           (
-            row-ends (codes "encode") file [] (codes "the line of a file for mcg; parallel edges count once"),
-            tt,
+            row-ends (codes "select") (what ∷ []) skip_file (codes "the lines whose graph has a property"),
+            (
+              row-ends (codes "encode") file [] (codes "the line of a file for mcg; parallel edges count once"),
+              tt,
+            ),
           ),
         ),
       ),

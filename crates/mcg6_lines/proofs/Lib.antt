@@ -11,6 +11,8 @@ pub mod SameKinds
 pub mod Counts
 pub mod MissedVertices
 pub mod OneStanding
+pub mod MatedSets
+pub mod AlikeMatchings
 pub mod OneAnswer
 pub mod DecimalSteps
 -- Passed on to the crates above: from_NAME is all that the crate NAME has in its folder of this name.

@@ -1,6 +1,7 @@
--- What is told of a line is one: the line stands for one graph, of which each query asks one
--- thing. The leaves are those of one tree, since the order picks one, with one list of kinds.
-use Rattle.std.proofs.Common.{◌≡◌, ◌∙◌, ℕ, List, Result, Ok, Err, sym, ap, arith}
+-- What is told of a line is one, unless the query is free; and then two outputs have in common what
+-- the graph determines. The line stands for one graph, of which each query asks one thing. The
+-- leaves are those of one tree, since the order picks one, with one list of kinds.
+use Rattle.std.proofs.Common.{◌≡◌, ◌∙◌, ℕ, List, Result, Ok, Err, sym, subst, ap, arith, IsFalse}
 use Rattle.mcg6_lines.proofs.OneTree.{kinds-once, named-once, picked-once}
 use Rattle.decomposer.specs.Common.{NamedPicks}
 use Rattle.decomposer.specs.declared.orders.NamedOrder.{NamedOrder}
@@ -15,7 +16,9 @@ use Rattle.mcg6_lines.specs.Selecting.{IsSelected}
 use Rattle.mcg6_lines.specs.Telling.{HasFault, IsTold, TellsLine}
 use Rattle.mcg6_lines.specs.declared.query.Property.{Property}
 use Rattle.mcg6_lines.specs.declared.query.Query.{Query}
-use Rattle.mcg6_lines.specs.declared.query.Query.TheVariants.{Kinds, Leaves, Elementary, Graph as GraphFile, Select}
+use Rattle.mcg6_lines.specs.declared.query.Query.TheVariants.{Kinds, Leaves, Elementary, Matching, Graph as GraphFile, Select}
+use Rattle.mcg6_lines.specs.Alike.{AreAlike, is_free}
+use Rattle.mcg6_lines.proofs.AlikeMatchings.{matchings-alike}
 use Rattle.mcg6_lines.proofs.Counts.{lacks_none}
 use Rattle.mcg6_lines.proofs.OneStanding.{words_once}
 
@@ -38,12 +41,13 @@ leaf_lines_once order number g a b h k = grind (arith, leaves_once order (line_f
 selected_once : (property : Property) (g : Graph) (line a b : List ℕ) → IsMultigraph g → IsSelected property g line a → IsSelected property g line b → a ≡ b
 selected_once property g line a b is h k = grind (arith, lacks_none g property is.ends)
 
-told_once : (query : Query) (number : ℕ) (line : List ℕ) (g : Graph) (a b : List ℕ) → IsMultigraph g → IsTold query number line g a → IsTold query number line g b → a ≡ b
-told_once Kinds number line g a b is one two = kind_line_once g a b is one two
-told_once (Leaves order) number line g a b is one two = leaf_lines_once order number g a b one two
-told_once Elementary number line g a b is one two = one ∙ sym two
-told_once GraphFile number line g a b is one two = one ∙ sym two
-told_once (Select property) number line g a b is one two = selected_once property g line a b is one two
+told_alike : (query : Query) (number : ℕ) (line : List ℕ) (g : Graph) (a b : List ℕ) → IsMultigraph g → IsTold query number line g a → IsTold query number line g b → AreAlike query a b
+told_alike Kinds number line g a b is one two = kind_line_once g a b is one two
+told_alike (Leaves order) number line g a b is one two = leaf_lines_once order number g a b one two
+told_alike Elementary number line g a b is one two = one ∙ sym two
+told_alike Matching number line g a b is one two = matchings-alike g a b one two
+told_alike GraphFile number line g a b is one two = one ∙ sym two
+told_alike (Select property) number line g a b is one two = selected_once property g line a b is one two
 
 -- a text stands for one graph, or has one first fault, and not both
 graph_once : (outcome : Result Graph Fault) (g h : Graph) → outcome ≡ Ok g → outcome ≡ Ok h → g ≡ h
@@ -52,9 +56,20 @@ graph_once outcome g h one two = grind arith
 kind_once : (outcome : Result Graph Fault) (fault other : Fault) → outcome ≡ Err fault → outcome ≡ Err other → fault.1 ≡ other.1
 kind_once outcome fault other one two = grind arith
 
--- the output of a line
-pub output_once : (query : Query) (number : ℕ) (line a b : List ℕ) → TellsLine query number line a → TellsLine query number line b → a ≡ b
-output_once query number line a b one two = grind (arith, told_once, read-multigraph, graph_once)
+-- two outputs of a line are alike
+pub outputs_alike : (query : Query) (number : ℕ) (line a b : List ℕ) → TellsLine query number line a → TellsLine query number line b → AreAlike query a b
+outputs_alike query number line a b one two =
+    let same : two.graph ≡ one.graph = graph_once (outcome_of line) two.graph one.graph two.stands one.stands in
+    told_alike query number line one.graph a b (read-multigraph line one.graph one.stands) one.told (subst (λ (g : Graph). IsTold query number line g b) same two.told)
+
+-- what is alike is one, unless the query is free
+pub alike_once : (query : Query) (a b : List ℕ) → IsFalse (is_free query) → AreAlike query a b → a ≡ b
+alike_once Kinds a b fixed alike = alike
+alike_once (Leaves order) a b fixed alike = alike
+alike_once Elementary a b fixed alike = alike
+alike_once Matching a b fixed alike = absurd (cc fixed)
+alike_once GraphFile a b fixed alike = alike
+alike_once (Select property) a b fixed alike = alike
 
 -- the kind of its first fault
 pub fault_once : (line : List ℕ) (kind other : FaultKind) → HasFault line kind → HasFault line other → kind ≡ other

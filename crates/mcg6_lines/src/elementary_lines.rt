@@ -3,10 +3,9 @@ ghost use Rattle.std.specs.Prelude.{◌≡◌, ◌≢◌, ◌≤◌, ◌<◌, �
 ghost use Rattle.allowed_edges.specs.from_counting.Common.{IsRisingIn, Within, mem, none};
 ghost use Rattle.graph_core.specs.Common.{IsSimple, size, with_edge};
 ghost use Rattle.allowed_edges.specs.from_match_core.Common.{ArePartners};
-ghost use Rattle.report_text.specs.Common.{numbers_text};
 ghost use Rattle.mcg6_lines.specs.Elementary.{allowed_subgraph, component_graph, component_line, component_lines, elementary_lines, elementary_parts, number_in, with_allowed, with_inside};
 
-use crate::decimals::{push_decimal, push_number};
+use crate::decimals::{push_decimal, push_vertices};
 use allowed_edges::match_core::{PartnerTable, maximum};
 use allowed_edges::{is_allowed_in, partners_where_perfect};
 use graph_core::vset_core::VSet;
@@ -131,18 +130,6 @@ fn push_component(
     push_graph6(alloc, lines, &component)?;
     push_vertices(lines, part)?;
     lines.extend_from_slice(b"\n")
-}
-
-// Appends the vertices, each after a space, in increasing order.
-fn push_vertices(lines: &mut Vec<u8>, part: VSet) -> Result<(), Memory>
-    ensures { OnOk result (lines.new.items ≡ lines.old.items ++ numbers_text part) }
-{
-    let mut rest = part;
-    'writing: while let Some((vertex, others)) = rest.split_first() {
-        push_number(lines, vertex)?;
-        rest = others;
-    }
-    Ok(())
 }
 
 // The component with this vertex set, a simple graph of its own.

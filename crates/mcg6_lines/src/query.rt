@@ -35,6 +35,8 @@ pub enum Query {
     Leaves { order: NamedOrder },
     /// Its elementary components, as graphs.
     Elementary,
+    /// A maximum matching, and its Gallai-Edmonds sets.
+    Matching,
     /// The canonical text of its graph file.
     Graph,
     /// The line itself, if the graph has this property.

@@ -8,6 +8,7 @@ ghost use Rattle.mcg6_lines.specs.Telling.{HasFault, IsTold, TellsLine, file_tex
 use crate::elementary_lines::elementary_lines;
 use crate::kind_lines::kind_line;
 use crate::leaf_lines::leaf_lines;
+use crate::matching_lines::matching_line;
 use crate::query::Query;
 use crate::selecting::selected;
 use graph_core::MultiGraph;
@@ -52,6 +53,7 @@ fn output(
         Query::Kinds => kind_line(alloc, g, line),
         Query::Leaves { order } => leaf_lines(alloc, g, *order, number, line),
         Query::Elementary => elementary_lines(alloc, g, number),
+        Query::Matching => matching_line(alloc, g, line),
         Query::Graph => file_text(alloc, g),
         Query::Select { property } => selected(alloc, g, *property, line),
     }

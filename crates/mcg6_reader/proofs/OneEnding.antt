@@ -75,17 +75,21 @@ module _ (tells : LinePlace → List ℕ → List ℕ → Type 0) (bad : LinePla
       all_not_bad place stops.before stops.line stops.behind found.kind b
       (subst (λ (ls : List (List ℕ)). AllTold tells place ls b) stops.cut ends.told) stops.named.bad_line
 
-  -- the first bad line is unique, and so is the output before it
-  module _ (one : HasOneOutputPerLine tells) (one_fault : HasOneFault bad) where
-    first_bad_once :
+  -- the first bad line is unique, and what comes before it are the same lines
+  module _ (one_fault : HasOneFault bad) where
+    -- two outputs of the same lines
+    abbrev SameTold : LinePlace → (a b : List ℕ) → Type 0
+    SameTold place a b = (before : List (List ℕ)) × AllTold tells place before a × AllTold tells place before b
+
+    first_bad_same :
         (place : LinePlace) (lines : List (List ℕ)) (found other : BadLine) (a b : List ℕ) →
         HasBadLine tells bad place lines found a → HasBadLine tells bad place lines other b →
-        (a ≡ b) × (found.number ≡ other.number) × (found.kind ≡ other.kind)
-    first_bad_once place lines found other a b first second =
+        SameTold place a b × (found.number ≡ other.number) × (found.kind ≡ other.kind)
+    first_bad_same place lines found other a b first second =
         let same =
         same_before place first.before second.before first.line second.line first.behind second.behind found.kind other.kind a b
         (sym first.cut ∙ second.cut) first.told second.told first.named.bad_line second.named.bad_line in (
-          one_output tells place second.before a b one (subst (λ (ls : List (List ℕ)). AllTold tells place ls a) same.0 first.told) second.told,
+          (second.before, subst (λ (ls : List (List ℕ)). AllTold tells place ls a) same.0 first.told, second.told),
           first.named.number ∙ ap (λ (ls : List (List ℕ)). (place_behind place ls).number) same.0 ∙ sym second.named.number,
           fault_once bad (place_behind place second.before) second.line found.kind other.kind one_fault
               (subst (λ (l : List ℕ). LineBad bad (place_behind place second.before) l found.kind) same.1
@@ -93,15 +97,24 @@ module _ (tells : LinePlace → List ℕ → List ℕ → Type 0) (bad : LinePla
               second.named.bad_line,
         )
 
-    pub stop_once :
+    pub stop_same :
         (lacks : ℕ → Option FaultKind) (place : LinePlace) (lines : List (List ℕ)) (found other : BadLine) (a b : List ℕ) →
         ToldToBad tells bad lacks place lines found a → ToldToBad tells bad lacks place lines other b →
-        (a ≡ b) × (found.number ≡ other.number) × (found.kind ≡ other.kind)
-    stop_once lacks place lines found other a b (inl first) (inl second) = first_bad_once place lines found other a b first second
-    stop_once lacks place lines found other a b (inl first) (inr second) = absurd (bad_not_lacking lacks place lines found other a b first second)
-    stop_once lacks place lines found other a b (inr first) (inl second) = absurd (bad_not_lacking lacks place lines other found b a second first)
-    stop_once lacks place lines found other a b (inr first) (inr second) = (
-      one_output tells place lines a b one first.told second.told,
+        ((before : List (List ℕ)) × AllTold tells place before a × AllTold tells place before b) × (found.number ≡ other.number) × (found.kind ≡ other.kind)
+    stop_same lacks place lines found other a b (inl first) (inl second) = first_bad_same place lines found other a b first second
+    stop_same lacks place lines found other a b (inl first) (inr second) = absurd (bad_not_lacking lacks place lines found other a b first second)
+    stop_same lacks place lines found other a b (inr first) (inl second) = absurd (bad_not_lacking lacks place lines other found b a second first)
+    stop_same lacks place lines found other a b (inr first) (inr second) = (
+      (lines, first.told, second.told),
       first.number ∙ sym second.number,
       same_Some found.kind other.kind (sym first.ends ∙ second.ends),
     )
+
+  -- the output before it is unique if each line has at most one
+  pub stop_once :
+      HasOneOutputPerLine tells → HasOneFault bad → (lacks : ℕ → Option FaultKind) (place : LinePlace) (lines : List (List ℕ)) (found other : BadLine) (a b : List ℕ) →
+      ToldToBad tells bad lacks place lines found a → ToldToBad tells bad lacks place lines other b →
+      (a ≡ b) × (found.number ≡ other.number) × (found.kind ≡ other.kind)
+  stop_once one one_fault lacks place lines found other a b first second =
+      let same = stop_same one_fault lacks place lines found other a b first second in
+      (one_output tells place same.0.0 a b one same.0.1 same.0.2, same.1, same.2)

@@ -7,3 +7,4 @@ mod kinds;
 mod selecting;
 mod selections;
 mod told;
+mod witnesses;

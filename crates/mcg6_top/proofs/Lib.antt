@@ -1,6 +1,7 @@
 pub mod Ended
 pub mod OneOutput
 pub mod Skipping
+pub mod AlikeOutputs
 pub mod OneOutcome
 pub mod LaterLines
 pub mod Splits

@@ -3,6 +3,7 @@
 use Rattle.std.proofs.Common.{◌≡◌, ◌∙◌, inl, inr, ℕ, List, [], ◌∷◌, ◌++◌, ap₂, refl, sym, subst, IsFalse, IsTrue, Some, None}
 use Rattle.line_text.specs.declared.faults.FaultKind.{FaultKind}
 use Rattle.line_text.specs.declared.faults.FaultKind.TheVariants.{Extra}
+use Rattle.mcg6_lines.specs.Alike.{is_free}
 use Rattle.mcg6_lines.specs.Telling.{HasFault, TellsLine}
 use Rattle.mcg6_lines.specs.declared.query.Query.{Query}
 use Rattle.mcg6_reader.proofs.Skips.{reported_begin}
@@ -34,13 +35,13 @@ pub answered_line :
     TellsLine query place.number line bytes → TellsOrSkips query at_bad place line bytes × SkipsLine query at_bad place line None
 answered_line query at_bad place line bytes first told = good_line query at_bad place line bytes (first, told)
 
--- each line has one output
-pub either_once : (query : Query) (at_bad : AtBadLine) → HasOneOutputPerLine (TellsOrSkips query at_bad)
-either_once query Stop place line a b one two = one_output_each query place line a b one two
-either_once query Skip place line a b (inl one) (inl two) = one_output_each query place line a b one two
-either_once query Skip place line a b (inl one) (inr two) = absurd (told_or_bad query place line a two.0.0 one two.0.1)
-either_once query Skip place line a b (inr one) (inl two) = absurd (told_or_bad query place line b one.0.0 two one.0.1)
-either_once query Skip place line a b (inr one) (inr two) = one.1 ∙ sym two.1
+-- each line has one output, unless the query is free
+pub either_once : (query : Query) (at_bad : AtBadLine) → IsFalse (is_free query) → HasOneOutputPerLine (TellsOrSkips query at_bad)
+either_once query Stop fixed place line a b one two = one_output_each query fixed place line a b one two
+either_once query Skip fixed place line a b (inl one) (inl two) = one_output_each query fixed place line a b one two
+either_once query Skip fixed place line a b (inl one) (inr two) = absurd (told_or_bad query place line a two.0.0 one two.0.1)
+either_once query Skip fixed place line a b (inr one) (inl two) = absurd (told_or_bad query place line b one.0.0 two one.0.1)
+either_once query Skip fixed place line a b (inr one) (inr two) = one.1 ∙ sym two.1
 
 pub stop_each : (query : Query) (at_bad : AtBadLine) → HasOneFault (ListStopsAt query at_bad)
 stop_each query Stop place line kind other one two = one_fault_each query place line kind other one two

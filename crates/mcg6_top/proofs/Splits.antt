@@ -5,7 +5,7 @@ use Rattle.std.proofs.Common.{◌≡◌, ◌∙◌, inl, inr, ℕ, ◌+◌, List
 use Rattle.std.proofs.lemmas.List.{map-append}
 use Rattle.line_text.specs.declared.faults.FaultKind.{FaultKind}
 use Rattle.mcg6_lines.specs.declared.query.Query.{Query}
-use Rattle.mcg6_lines.specs.declared.query.Query.TheVariants.{Kinds, Leaves, Elementary, Graph, Select}
+use Rattle.mcg6_lines.specs.declared.query.Query.TheVariants.{Kinds, Leaves, Elementary, Matching, Graph, Select}
 use Rattle.mcg6_reader.proofs.Joins.{AllTold-append, GivesOutput-behind}
 use Rattle.mcg6_reader.proofs.LineCuts.{lines_of-closed}
 use Rattle.mcg6_reader.proofs.Skips.{Reported-behind}
@@ -25,6 +25,7 @@ use Rattle.mcg6_top.specs.declared.status.ListStatus.TheVariants as status
 -- the output of a line does not depend on its place
 line_moved : (query : Query) (p q : LinePlace) (line output : List ℕ) → IsTrue (is_by_line query) → TellsLineOf query p line output → TellsLineOf query q line output
 line_moved Kinds p q line output by told = (refl, record { graph = told.1.graph; stands = told.1.stands; told = told.1.told })
+line_moved Matching p q line output by told = (refl, record { graph = told.1.graph; stands = told.1.stands; told = told.1.told })
 line_moved (Select property) p q line output by told = (refl, record { graph = told.1.graph; stands = told.1.stands; told = told.1.told })
 line_moved (Leaves order) p q line output by told = absurd (cc by)
 line_moved Elementary p q line output by told = absurd (cc by)
@@ -33,6 +34,7 @@ line_moved Graph p q line output by told = absurd (cc by)
 -- nor does the error of a bad one
 bad_moved : (query : Query) (p q : LinePlace) (line : List ℕ) (kind : FaultKind) → IsTrue (is_by_line query) → IsBadLine query p line kind → IsBadLine query q line kind
 bad_moved Kinds p q line kind by bad = bad
+bad_moved Matching p q line kind by bad = bad
 bad_moved (Select property) p q line kind by bad = bad
 bad_moved (Leaves order) p q line kind by bad = absurd (cc by)
 bad_moved Elementary p q line kind by bad = absurd (cc by)
@@ -41,6 +43,7 @@ bad_moved Graph p q line kind by bad = absurd (cc by)
 -- nothing is missing at the end
 none_missing : (query : Query) → IsTrue (is_by_line query) → (graphs : ℕ) → lacks_of query graphs ≡ None
 none_missing Kinds by graphs = refl
+none_missing Matching by graphs = refl
 none_missing (Select property) by graphs = refl
 none_missing (Leaves order) by graphs = refl
 none_missing Elementary by graphs = refl

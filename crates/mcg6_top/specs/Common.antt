@@ -5,6 +5,7 @@ pub use Rattle.mcg6_top.specs.Asked.{text_of, list_asked, asked}
 pub use Rattle.mcg6_top.specs.Listings.{is_past_graph, TellsLineOf, IsBadLine, lacks_of, TellsOrSkips, ListStopsAt, SkipsLine, is_by_line, opens_with_header}
 pub use Rattle.mcg6_top.specs.Statuses.{code_of, status_after, status_encoded, status_at, status_in}
 pub use Rattle.mcg6_top.specs.Outcomes.{EndsWith, SkipsUpTo, StopsAtBad, HasSkipped, ListOutcome, TellsSome, OutcomeOfRead, StreamsTo, Streams, IsSettledEnding, HasAnswer, HasSettledEnd, HasListOutcome}
+pub use Rattle.mcg6_top.specs.AlikeOutputs.{AreAlikeOutputs}
 pub use Rattle.mcg6_top.specs.Splits.{found_behind, ending_behind}
 pub use Rattle.mcg6_top.specs.Encodings.{StopsAtFile, EncodeOutcome, EncodesSome, ReadsFirstTo}
 pub use Rattle.mcg6_top.specs.Runs.{ListRuns, AnswersList, AnswersFile, command_at, Performs, ListRunsTo}

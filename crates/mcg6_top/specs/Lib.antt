@@ -3,6 +3,7 @@ pub mod Asked
 pub mod Listings
 pub mod Statuses
 pub mod Outcomes
+pub mod AlikeOutputs
 pub mod Splits
 pub mod Encodings
 pub mod Common

@@ -4,7 +4,7 @@ use Rattle.std.specs.Prelude.{◌≡◌, ℕ, ◌==◌, ◌⊎◌, nat_lt, Bool,
 use Rattle.line_text.specs.declared.faults.FaultKind.{FaultKind}
 use Rattle.line_text.specs.declared.faults.FaultKind.TheVariants.{Extra, Missing}
 use Rattle.mcg6_lines.specs.declared.query.Query.{Query}
-use Rattle.mcg6_lines.specs.declared.query.Query.TheVariants.{Kinds, Leaves, Elementary, Graph, Select}
+use Rattle.mcg6_lines.specs.declared.query.Query.TheVariants.{Kinds, Leaves, Elementary, Matching, Graph, Select}
 use Rattle.mcg6_lines.specs.Telling.{TellsLine, HasFault}
 use Rattle.mcg6_top.specs.declared.command.AtBadLine.{AtBadLine}
 use Rattle.mcg6_top.specs.declared.command.AtBadLine.TheVariants.{Stop, Skip}
@@ -16,6 +16,7 @@ abbrev pub is_past_graph : Query → LinePlace → Bool
 is_past_graph Kinds place = false
 is_past_graph (Leaves order) place = false
 is_past_graph Elementary place = false
+is_past_graph Matching place = false
 is_past_graph Graph place = nat_lt 0 place.graphs
 is_past_graph (Select property) place = false
 
@@ -33,6 +34,7 @@ abbrev pub lacks_of : Query → ℕ → Option FaultKind
 lacks_of Kinds graphs = None
 lacks_of (Leaves order) graphs = None
 lacks_of Elementary graphs = None
+lacks_of Matching graphs = None
 lacks_of Graph graphs = if graphs == 0 then Some Missing else None
 lacks_of (Select property) graphs = None
 
@@ -57,11 +59,13 @@ SkipsLine query Stop place line (Some kind) = ⊥
 SkipsLine query Skip place line None = (kind : FaultKind) → IsBadLine query place line kind → ⊥
 SkipsLine query Skip place line (Some kind) = IsBadLine query place line kind
 
--- the output of a line that is not a header depends on the line alone, and not on its number
+-- what may be written for a line that is not a header depends on the line alone, and not on its
+-- number
 abbrev pub is_by_line : Query → Bool
 is_by_line Kinds = true
 is_by_line (Leaves order) = false
 is_by_line Elementary = false
+is_by_line Matching = true
 is_by_line Graph = false
 is_by_line (Select property) = true
 

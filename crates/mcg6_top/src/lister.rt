@@ -24,7 +24,11 @@ fn is_further(query: &Query, place: LinePlace) -> bool
 {
     match query {
         Query::Graph => place.graphs > 0,
-        Query::Kinds | Query::Leaves { .. } | Query::Elementary | Query::Select { .. } => false,
+        Query::Kinds
+        | Query::Leaves { .. }
+        | Query::Elementary
+        | Query::Matching
+        | Query::Select { .. } => false,
     }
 }
 
@@ -68,6 +72,7 @@ impl LineTeller for Lister {
             | Query::Kinds
             | Query::Leaves { .. }
             | Query::Elementary
+            | Query::Matching
             | Query::Select { .. } => None,
         }
     }

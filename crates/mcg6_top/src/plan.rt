@@ -63,6 +63,7 @@ fn query_named(word: &str) -> Option<Query>
             order: NamedOrder::First,
         }),
         "elementary" => Some(Query::Elementary),
+        "matching" => Some(Query::Matching),
         "graph" => Some(Query::Graph),
         _ => None,
     }
@@ -103,7 +104,11 @@ fn may_skip(query: &Query) -> bool
 {
     match query {
         Query::Graph => false,
-        Query::Kinds | Query::Leaves { .. } | Query::Elementary | Query::Select { .. } => true,
+        Query::Kinds
+        | Query::Leaves { .. }
+        | Query::Elementary
+        | Query::Matching
+        | Query::Select { .. } => true,
     }
 }
 

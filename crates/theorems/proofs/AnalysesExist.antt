@@ -23,7 +23,8 @@ use Rattle.report_text.specs.Common.{analysis_text, graph6_line}
 use Rattle.theorems.proofs.ReportsExist.{covered_or_told}
 use Rattle.theorems.proofs.ThreeSets.{three_sets}
 
-listed_by : (n : ℕ) (x : Set) (P : ℕ → Type 0) → ((v : ℕ) → Within n v → (x v ≡ true) ↔ P v) → Lists n (rising_list n x) P
+-- the rising list of a test of a property lists the numbers with the property
+pub listed_by : (n : ℕ) (x : Set) (P : ℕ → Type 0) → ((v : ℕ) → Within n v → (x v ≡ true) ↔ P v) → Lists n (rising_list n x) P
 listed_by n x P says = record {
   rising = rising_list-rises n x;
   sound = λ v m. let w = mem-within n (rising_list n x) (rising_list-rises n x) v m in (says v w).0 (sym (mem-rising_list n x v w) ∙ m);

@@ -49,6 +49,7 @@ pub mod KindsRead
 pub mod LaminarFamilies
 pub mod LeafKindLists
 pub mod LinesTold
+pub mod MatchingLinesExist
 pub mod ListMembers
 pub mod LoneSteps
 pub mod LoopedEdges

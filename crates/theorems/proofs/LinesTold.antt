@@ -25,7 +25,7 @@ use Rattle.bench_top.specs.from_mcg6_lines.Telling.{IsTold, file_text}
 use Rattle.bench_top.specs.from_mcg6_lines.declared.query.Property.{Property}
 use Rattle.bench_top.specs.from_mcg6_lines.declared.query.Property.TheVariants.{Covered, Uncovered as NotCovered, Perfect, Brick, Brace, Bicritical, Composite, Bricks, Braces}
 use Rattle.bench_top.specs.from_mcg6_lines.declared.query.Query.{Query}
-use Rattle.bench_top.specs.from_mcg6_lines.declared.query.Query.TheVariants.{Kinds, Leaves, Elementary, Graph as GraphFile, Select}
+use Rattle.bench_top.specs.from_mcg6_lines.declared.query.Query.TheVariants.{Kinds, Leaves, Elementary, Matching, Graph as GraphFile, Select}
 use Rattle.bench_top.specs.from_mcg6_lines.declared.standings.Standing.{Standing}
 use Rattle.bench_top.specs.from_mcg6_lines.declared.standings.Standing.TheVariants.{Structured, Uncovered}
 use Rattle.mcg6_top.specs.from_mcg6_reader.declared.place.LinePlace.{LinePlace}
@@ -35,6 +35,7 @@ use Rattle.mcg6_top.specs.declared.command.AtBadLine.{AtBadLine}
 use Rattle.theorems.proofs.AnalysesExist.{structure_of}
 use Rattle.theorems.proofs.CommandOrders.{named-some}
 use Rattle.theorems.proofs.LeafKindLists.{kinds-by_place, kinds-exist, tally-exists}
+use Rattle.theorems.proofs.MatchingLinesExist.{matching_line-exists}
 use Rattle.theorems.proofs.PickedDerivations.{picked-tree, some-tree}
 use Rattle.theorems.proofs.ReportsExist.{covered_or_told}
 
@@ -186,6 +187,7 @@ module _ (g : Graph) (is : IsMultigraph g) where
       (kind_line g (standing_words s.0), record { words = standing_words s.0; right = record { standing = s.0; right = s.1; is = refl }; line = refl })
   told (Leaves order) number line = leaf_output order number
   told Elementary number line = (elementary_lines number g, refl)
+  told Matching number line = matching_line-exists g is
   told GraphFile number line = (file_text g, refl)
   told (Select property) number line = selected property line
 
