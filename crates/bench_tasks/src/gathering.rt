@@ -34,12 +34,13 @@ pub fn gather<'a, R: Reasons<S>, S: Shelf>(
     ensures asked { IfOk result (λ task. IsTaskOf (asked command.entry) (task_of task)) }
 {
     match command {
-        Command::OnGraph { verb, graph_file } => load_first(alloc, &GraphFile, graph_file, reasons, shelf).map(|named| Task::OnGraph { verb, named }),
+        Command::OnGraph { verb, graph_file } => load_first(
+            alloc, &GraphFile, graph_file, reasons, shelf,
+        ).map(|named| Task::OnGraph { verb, named }),
         Command::OnSimpleGraph { verb, graph_file } => {
-            load_first(alloc, &Graph6File, graph_file, reasons, shelf).map(|simple| Task::OnSimpleGraph {
-                verb,
-                simple,
-            })
+            load_first(alloc, &Graph6File, graph_file, reasons, shelf).map(
+                |simple| Task::OnSimpleGraph { verb, simple },
+            )
         }
         Command::OnTree {
             verb,
@@ -70,10 +71,9 @@ pub fn gather<'a, R: Reasons<S>, S: Shelf>(
             graph_file,
             tree_file,
             moves_file,
-        } => load_moves(alloc, graph_file, tree_file, moves_file, reasons, shelf).map(|given| Task::OnMoves {
-            verb,
-            given,
-        }),
+        } => load_moves(alloc, graph_file, tree_file, moves_file, reasons, shelf).map(
+            |given| Task::OnMoves { verb, given },
+        ),
         Command::OnTrees {
             verb,
             graph_file,
