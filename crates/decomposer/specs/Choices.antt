@@ -1,6 +1,6 @@
 -- What an order may be asked and may answer: a choice, the first balanced place, and the answer of a
 -- function.
--- Stated by: decomposer. Used by: mcg6_lines, theorems, example_order.
+-- Stated by: decomposer. Used by: mcg6_lines, theorems.
 use Rattle.std.specs.Prelude.{◌≡◌, ℕ, ◌-◌, ◌+◌, ◌^◌, ◌<◌, ◌≤◌, All, List, length, map, slice_get, Option, Some, None}
 use Rattle.std.specs.Borrow.{Bor}
 use Rattle.graph_core.specs.from_counting.Common.{IsRisingIn}
