@@ -13,9 +13,10 @@ from .census_rows import Row, bad_row, rows_of
 from .errors import LIMIT, BadText
 from .sessions import MOST_LINE
 
-# A part of a list is written at a time. The first has so many lines; while one takes less than so
-# many seconds, the next is twice as long; after one that takes more than so many, half as long.
-FIRST, MOST, SHORT, LONG = 64, 8_192, 0.5, 2.0
+# A part of a list is written at a time, of FIRST lines at first. After a part that took less than SHORT
+# seconds the next has twice as many, but at most MOST; after one that took more than LONG, half as many,
+# but at least LEAST.
+FIRST, LEAST, MOST, SHORT, LONG = 64, 16, 8_192, 1.0, 10.0
 
 # A part of a list is closed if its lines come so slowly.
 PATIENCE = 1.0
@@ -25,7 +26,11 @@ Progress = Callable[[int], None]
 
 class Census(NamedTuple):
     """What a call of `census` did: the number of the list in the file, how many of its lines are done
-    now, and how many of these by this call."""
+    now, and how many of these by this call.
+
+    >>> Census(1, 27, 27).new
+    27
+    """
 
     list: int
     lines: int
@@ -78,11 +83,10 @@ def census(
         source = sys.stdin.buffer if name == UNNAMED else stack.enter_context(open(name, "rb"))
         found = stack.enter_context(closing(CensusFile(file)))
         lines = _Lines(source)
-        done = found.done(name)
-        if done is None:
-            done = found.begin(name, lines.sha256, edges)
-        else:
-            _demand_same(name, lines, done, edges)
+        begun = found.done(name)
+        if begun is not None:
+            _demand_same(name, lines, begun, edges)
+        done = begun or found.begin(name, lines.sha256, edges)
         first = done.lines
         for part in _parts(lines, edges, processes):
             done = found.add(done, part, lines.count, lines.sha256)
@@ -137,7 +141,7 @@ def _parts(lines: _Lines, edges: bool, processes: int) -> Iterator[List[Row]]:
         if lines.count > before:
             yield sorted([*bad, *rows_of(good, edges, processes)], key=lambda it: it.line)
         took = time.monotonic() - start
-        most = min(2 * most, MOST) if took < SHORT else max(1, most // 2) if took > LONG else most
+        most = min(2 * most, MOST) if took < SHORT else max(LEAST, most // 2) if took > LONG else most
 
 
 def _taken(lines: _Lines, most: int) -> Tuple[List[Row], List[Tuple[int, bytes]], bool]:

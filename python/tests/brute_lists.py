@@ -5,9 +5,11 @@ answers all others.
 """
 import os
 import sys
+from importlib.machinery import SourceFileLoader
+from importlib.util import module_from_spec, spec_from_loader
 from itertools import combinations
 
-from support import Brute, mcg
+from support import ROOT, Brute, mcg
 
 
 def brute6(text):
@@ -21,11 +23,13 @@ def edges_of(brute):
     return sorted((tuple(sorted(edge)) for edge in brute.edges), key=lambda edge: edge[::-1])
 
 
-def maximum_matching(brute):
-    """The edges of a maximum matching, sorted: vertex by vertex, each is matched if the rest then still has a largest matching."""
+def maximum_matching(brute, draw=None):
+    """The edges of a maximum matching, sorted: vertex by vertex, each is matched if the rest then still has a largest matching. With
+    `draw`, the vertices are taken in random order."""
     left, found = brute.whole, []
-    for v in brute.vertices:
-        for w in sorted(brute.near[v] & left) if v in left else ():
+    vertices = draw.sample(brute.vertices, len(brute.vertices)) if draw else brute.vertices
+    for v in vertices:
+        for w in sorted(brute.near[v] & left, key=vertices.index) if v in left else ():
             if 1 + brute.largest(left - {v, w}) == brute.largest(left):
                 found.append((v, w))
                 left -= {v, w}
@@ -35,10 +39,10 @@ def maximum_matching(brute):
     return sorted(tuple(sorted(edge)) for edge in found)
 
 
-def matching_line(text):
+def matching_line(text, draw=None):
     """The line of `matching` with some maximum matching."""
     brute = brute6(text)
-    edges = maximum_matching(brute)
+    edges = maximum_matching(brute, draw)
     missed = brute.missed()
     near = {w for v in missed for w in brute.near[v]} - missed
     sets = {"D": missed, "A": near, "C": brute.whole - missed - near}
@@ -50,12 +54,12 @@ def matching_line(text):
 
 def candidates(brute):
     """The candidates of a graph that is matching covered, with their origins, by listing all tight cuts."""
-    found, order = [], len(brute.vertices)
+    found, order, matchings = [], len(brute.vertices), brute.perfect_matchings()
     tight = [
         shore
         for size in range(1, order, 2)
         for shore in map(frozenset, combinations(brute.vertices, size))
-        if all(sum(len(edge & shore) == 1 for edge in it) == 1 for it in brute.perfect_matchings())
+        if all(sum(len(edge & shore) == 1 for edge in it) == 1 for it in matchings)
     ]
 
     def add(origin, shore):
@@ -123,11 +127,9 @@ def ear_decomposition(brute):
         singles = [[path] for path in open_paths]
         doubles = [[one, two] for one, two in combinations(open_paths, 2) if not set(one) & set(two)]
         for step in singles + doubles:
-            after = stage | {edge for path in step for edge in edges_along(path)}
-            met = {v for edge in after for v in edge}
-            if brute.is_matched(*met) and Brute(sorted(met), map(tuple, after)).is_covered():
+            if goes_on(brute, stage, step):
                 steps.append(step)
-                stage = after
+                stage |= {edge for path in step for edge in edges_along(path)}
                 break
         else:
             raise AssertionError("an ear decomposition does not go on")
@@ -148,6 +150,60 @@ def ear_lines(number, text):
 def lines(word, number, text):
     """The lines of a word on a graph."""
     return [matching_line(text)] if word == "matching" else {"cuts": cut_lines, "ears": ear_lines}[word](number, text)
+
+
+def is_right_matching(row, text):
+    """Whether a line of `matching` is right: it differs from that of the brute force in the edges alone, which are a matching."""
+    due = matching_line(text).split(" ")
+    words, brute = row.split(" "), brute6(text)
+    edges = [tuple(map(int, word.split("-"))) for word in words[2 : 2 + int(due[1])]]
+    others = words[:2] + words[2 + len(edges) :]
+    ends = [v for edge in edges for v in edge]
+    is_matching = len(set(ends)) == len(ends) and all(a < b and frozenset((a, b)) in brute.edges for a, b in edges)
+    is_plain = words[2 : 2 + len(edges)] == [f"{a}-{b}" for a, b in sorted(edges)]
+    return is_plain and is_matching and others == due[:2] + due[2 + int(due[1]) :]
+
+
+def is_right_ears(row, number, text):
+    """Whether a line of `ears` is right: each stage is matching covered, ears are odd paths that meet the stage in their ends alone,
+    the last stage is the graph, and two ears come only where no single one does. All by listing paths."""
+    words, brute = row.split(" "), brute6(text)
+    first = tuple(map(int, words[4].split("-")))
+    steps = [[[int(v) for v in path.split("-")] for path in word.split("+")] for word in words[5:]]
+    single = sum(len(step) == 1 for step in steps)
+    plain = ["+".join("-".join(map(str, path)) for path in step) for step in steps]
+    if words != [str(number), text, str(single), str(len(steps) - single), "{}-{}".format(*first), *plain]:
+        return False
+    stage = {frozenset(first)}
+    if first[0] >= first[1] or not stage <= brute.edges:
+        return False
+    for step in steps:
+        inside = {v for edge in stage for v in edge}
+        open_paths = paths(brute, inside, stage)
+        is_due = len(step) == 1 or not any(goes_on(brute, stage, [path]) for path in open_paths)
+        known = all(path in open_paths or path[::-1] in open_paths for path in step)
+        apart = len({v for path in step for v in path[1:-1]}) == sum(len(path) - 2 for path in step)
+        if not (known and apart and is_due and len(step) <= 2 and goes_on(brute, stage, step)):
+            return False
+        stage |= {edge for path in step for edge in edges_along(path)}
+    return stage == brute.edges
+
+
+def goes_on(brute, stage, step):
+    """Whether a stage with further ears is matching covered, and the graph can be reached from it."""
+    added = [edge for path in step for edge in edges_along(path)]
+    after = stage | set(added)
+    met = {v for edge in after for v in edge}
+    is_new = len(after) == len(stage) + len(added)
+    return is_new and brute.is_matched(*met) and Brute(sorted(met), map(tuple, after)).is_covered()
+
+
+def second_program():
+    """The module tests/judge_lists, which shares no code with the package."""
+    loader = SourceFileLoader("judge_lists", f"{ROOT}/tests/judge_lists")
+    made = module_from_spec(spec_from_loader("judge_lists", loader))
+    loader.exec_module(made)
+    return made
 
 
 def main(words):

@@ -31,7 +31,8 @@ def crossing_matching(simple: Simple, shore: int) -> Optional[List[int]]:
     def crosses(v: int, w: int) -> bool:
         return bool((shore >> v ^ shore >> w) & 1)
 
-    for v, w in combinations(min(sides, key=lambda side: len(side)), 2):
+    boundary = min(sides, key=len)
+    for v, w in combinations(boundary, 2):
         found = joint_matching(simple.rows, simple.mate, v, w, crosses)
         if found is not None:
             return found
