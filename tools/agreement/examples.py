@@ -2,7 +2,8 @@
 
 An example is the block of a `///` doc between two lines of three backticks. Its test is the function `shows_..` of crates/engine_tests or
 crates/text_tests that EXAMPLES names, without the line that takes the allocator and the last line. Tests are tried by the gate; so an
-example that no longer compiles, or says what is not so, is found.
+example that no longer compiles, or says what is not so, is found. And each block of Rattle in docs/LIBRARY.md is a text of the crate
+`example_order`, up to spaces.
 """
 import pathlib
 import re
@@ -53,13 +54,24 @@ def example(path, start):
     return doc[marks[0] + 1:marks[1]] if len(marks) == 2 else []
 
 
+def blocks():
+    """The blocks of Rattle in docs/LIBRARY.md, and those that the crate `example_order` does not have, by their first lines."""
+    code = " ".join("\n".join(it.read_text() for it in sorted(pathlib.Path("crates/example_order/src").rglob("*.rt"))).split())
+    found = re.findall(r"^```rust\n(.*?)^```", pathlib.Path("docs/LIBRARY.md").read_text(), re.M | re.S)
+    return found, [it.split("\n")[0] for it in found if " ".join(it.split()) not in code]
+
+
 def main():
     found = tests()
+    shown, strange = blocks()
     wrong = [f"crates/{path}: the example of `{name}` is not the text of the test shows_{name}"
              for path, start, name in EXAMPLES if not example(path, start) or example(path, start) != found.get(name)]
+    wrong += [f"docs/LIBRARY.md: crates/example_order does not have the block that begins with {it!r}" for it in strange]
+    wrong += ["docs/LIBRARY.md: it has fewer than 5 blocks of Rattle"] if len(shown) < 5 else []
     wrong += [f"{TESTS[0]} or {TESTS[1]}: shows_{name} is the text of no example" for name in sorted(set(found) - {it[2] for it in EXAMPLES})]
     for line in wrong:
         print(line)
     if not wrong:
-        print(f"crates: each of {len(EXAMPLES)} examples in the docs of calls is the text of a test")
+        print(f"crates: each of {len(EXAMPLES)} examples in the docs of calls is the text of a test, and each of the {len(shown)} blocks of "
+              "docs/LIBRARY.md one of the crate example_order")
     return 1 if wrong else 0

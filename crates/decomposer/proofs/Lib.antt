@@ -1,2 +1,3 @@
+pub mod ChoicesAt
 pub mod KindsFound
 pub mod Picking

@@ -2,9 +2,10 @@
 ghost use Rattle.std.specs.Prelude.{◌≡◌, ◌≤◌, ◌+◌, length, map, IfOk, Some};
 ghost use Rattle.tight_cuts.specs.Common.{AreClustersAt, candidates, first_shore, candidates_at};
 ghost use Rattle.tree_core.specs.Common.{IsCutAt, IsDerivation, cut, cut_count, leaves, place_of, shape_of};
-ghost use Rattle.decomposer.specs.Common.{NamedPicks, Finds, IsPicked, PicksShore};
+ghost use Rattle.decomposer.specs.Common.{NamedPicks, Finds, IsPicked, MayBeAsked, PicksShore};
 
 use crate::orders::{NamedOrder, Order};
+use crate::pickers::Picker;
 use crate::shores::picked_at;
 use graph_core::vset_core::VSet;
 use std::alloc::{AllocError, Global};
@@ -33,6 +34,23 @@ pub fn decompose_places<'g, O: Order>(
     ensures derivation { IfOk result (λ found. IsDerivation c.now (shape_of found.tree)) }
     ensures picked { IfOk result
         (λ found. IsPicked (O.picks order.now) c.now (shape_of found.tree)) }
+    ensures leaves { IfOk result (λ found. found.leaves.items
+        ≡ map (place_of c.now) (leaves c.now.order (shape_of found.tree))) }
+{
+    let found = places_picked_by(alloc, c, &order)?;
+    Ok(found)
+}
+
+/// The tree that `decompose_places` returns, for every rule that may be asked at each choice.
+pub(crate) fn places_picked_by<'g, P: Picker>(
+    alloc: Global,
+    c: &'g Covered<'g>,
+    order: &P,
+) -> Result<Decomposition<'g>, AllocError>
+    requires { MayBeAsked (P.can_pick order.now) c.now.order }
+    ensures derivation { IfOk result (λ found. IsDerivation c.now (shape_of found.tree)) }
+    ensures picked { IfOk result
+        (λ found. IsPicked (P.picks order.now) c.now (shape_of found.tree)) }
     ensures leaves { IfOk result (λ found. found.leaves.items
         ≡ map (place_of c.now) (leaves c.now.order (shape_of found.tree))) }
 {
@@ -66,7 +84,7 @@ pub fn decompose_places_from_first<'g>(
     let mut leaves = Vec::new(alloc);
     let clusters = Clusters::new(alloc, c.graph())?;
     let first = NamedOrder::First;
-    let (tree, _) = decompose_cut(alloc, &first, &root, 0, cut, clusters, &mut leaves)?;
+    let (tree, _) = decompose_cut(alloc, &&first, &root, 0, cut, clusters, &mut leaves)?;
     Ok(Decomposition { tree, leaves })
 }
 
@@ -94,9 +112,9 @@ pub(crate) const MOST_COUNTED: usize = 256;
 // before what follows it. Its leaves are appended. The clusters are those that are known at the
 // place: they serve the places below too.
 #[cycle(decomposing)]
-fn decompose_at<'g, O: Order>(
+fn decompose_at<'g, P: Picker>(
     alloc: Global,
-    order: &O,
+    order: &P,
     place: KnownPlace<'g>,
     before: usize,
     mut clusters: Clusters,
@@ -104,7 +122,8 @@ fn decompose_at<'g, O: Order>(
 ) -> Result<(Tree, usize), AllocError>
     requires few { before + length place.blocks ≤ MOST_COUNTED }
     requires clusters { AreClustersAt place.graph place.blocks clusters }
-    ensures made { IfOk result (λ made. Finds (O.picks order.now) place.entry before
+    requires asked { MayBeAsked (P.can_pick order.now) place.graph.order }
+    ensures made { IfOk result (λ made. Finds (P.picks order.now) place.entry before
         leaves.old.items (shape_of made.0) made.1 leaves.new.items) }
     ensures few { IfOk result (λ made. 4 ≤ length place.entry.blocks →
         cut_count (shape_of made.0) + 3 ≤ length place.entry.blocks) }
@@ -122,9 +141,9 @@ fn decompose_at<'g, O: Order>(
 // The tree with the cut at a place that the order picks there, and the number of cuts before what
 // follows it.
 #[cycle(decomposing)]
-fn decompose_cut<'g, O: Order>(
+fn decompose_cut<'g, P: Picker>(
     alloc: Global,
-    order: &O,
+    order: &P,
     place: &KnownPlace<'g>,
     before: usize,
     shore: VSet,
@@ -132,11 +151,12 @@ fn decompose_cut<'g, O: Order>(
     leaves: &mut Vec<KnownPlace<'g>>,
 ) -> Result<(Tree, usize), AllocError>
     requires cut { IsCutAt place.now.graph place.now.blocks shore }
-    requires picked { PicksShore (O.picks order.now)
+    requires picked { PicksShore (P.picks order.now)
         (candidates_at place.now.graph place.now.blocks) before shore }
     requires few { before + length place.now.blocks ≤ MOST_COUNTED }
     requires clusters { AreClustersAt place.now.graph place.now.blocks clusters }
-    ensures made { IfOk result (λ made. Finds (O.picks order.now) place.now before
+    requires asked { MayBeAsked (P.can_pick order.now) place.now.graph.order }
+    ensures made { IfOk result (λ made. Finds (P.picks order.now) place.now before
         leaves.old.items (shape_of made.0) made.1 leaves.new.items) }
     ensures few { IfOk result
         (λ made. cut_count (shape_of made.0) + 3 ≤ length place.now.blocks) }

@@ -19,11 +19,12 @@ mod by_function;
 mod counting_leaves;
 mod decomposition;
 mod orders;
+mod pickers;
 mod shores;
 mod trees;
 mod visited_places;
 
-pub use by_function::{ByFunction, Function};
+pub use by_function::{ByFunction, Function, decompose_by};
 pub use counting_leaves::tally;
 pub use decomposition::{Decomposition, decompose_places, decompose_places_from_first};
 pub use orders::{NamedOrder, Order, Scripted};

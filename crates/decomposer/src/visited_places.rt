@@ -148,7 +148,7 @@ impl<'g> VisitedPlaces<'g> {
     {
         let number = visit(alloc, &mut self.places, place, &mut clusters)?;
         let visited = &self.places[number];
-        match listed_shore(order, &visited.candidates, before) {
+        match listed_shore(&order, &visited.place, &visited.candidates, before) {
             None => {
                 kinds.push(visited.place.kind())?;
                 Ok((Tree::Leaf, before))

@@ -6,14 +6,15 @@
 //! for (`IsDerivation` of `tree_core`), it is the one that this order picks (`IsPicked` of
 //! `decomposer`, `PicksWidest` of `specs/WidestCuts`), and `check` accepts it.
 //!
-//! The order is a type with an `impl Order`, which holds the graph. `decompose_by_turns` shows the
-//! other way, a closure. `docs/LIBRARY.md` explains these files.
+//! The order is a type with an `impl Order`, which holds the graph. `decompose_by_turns` and
+//! `decompose_by_width` show the other way, a closure, which may borrow the graph.
+//! `docs/LIBRARY.md` explains these files.
 #![tactic(auto)]
 
 mod turns;
 mod widest;
 mod widest_cuts;
 
-pub use turns::decompose_by_turns;
+pub use turns::{decompose_by_turns, decompose_by_width};
 pub use widest::{Decomposed, Failed, decompose_widest};
 pub use widest_cuts::{Widest, cut_width};

@@ -2,7 +2,7 @@
 ghost use Rattle.std.specs.Prelude.{◌≡◌, ◌<◌, ℕ, length, IfOk, Some};
 ghost use Rattle.tree_core.specs.Common.{IsDerivation, shape_of};
 
-use decomposer::{ByFunction, NamedOrder, Refused, Scripted, decompose};
+use decomposer::{ByFunction, NamedOrder, Refused, Scripted, decompose, decompose_by};
 use graph_core::MultiGraph;
 use std::alloc::{AllocError as Memory, Global};
 use tree_check::tight_cuts::Candidate;
@@ -15,9 +15,11 @@ pub enum Choice {
     Named(NamedOrder),
     /// The order of a list of picks, with one for the root: the candidate at place 2, of three.
     Scripted,
-    /// The order of a function that answers a place past the end of the list. So the first
-    /// candidate is picked.
-    PastTheEnd,
+    /// The order of a function in a box: the last candidate.
+    Boxed,
+    /// The order of a closure that borrows the graph: the first candidate, since each covered graph
+    /// has an even number of vertices.
+    Borrowing,
 }
 
 /// The order of the first candidates.
@@ -33,15 +35,33 @@ pub fn decomposed(alloc: Global, g: &MultiGraph, choice: Choice) -> Result<Tree,
     match choice {
         Choice::Named(order) => decompose(alloc, g, &order),
         Choice::Scripted => decompose(alloc, g, &Scripted { picks: &[2] }),
-        Choice::PastTheEnd => decomposed_past_the_end(alloc, g),
+        Choice::Boxed => decomposed_by_box(alloc, g),
+        Choice::Borrowing => decomposed_by_parity(alloc, g),
     }
 }
 
-// The decomposition in the order of a function that answers a place past the end of the list.
-fn decomposed_past_the_end(alloc: Global, g: &MultiGraph) -> Result<Tree, Refused>
+// The decomposition in the order of a closure that borrows the graph: the first place at an even
+// number of vertices, and the last one at an odd number.
+fn decomposed_by_parity(alloc: Global, g: &MultiGraph) -> Result<Tree, Refused>
     ensures { IfOk result (λ tree. IsDerivation g.now (shape_of tree)) }
 {
-    match Box::new(alloc, |list: &[Candidate], _cuts: usize| list.len()) {
+    let by_parity = |list: &[Candidate], _cuts: usize| if g.order() % 2 == 0 {
+        0
+    } else {
+        list.len() - 1
+    };
+    decompose_by(alloc, g, &by_parity)
+}
+
+// The decomposition in the order of a function in a box, which returns the last place.
+fn decomposed_by_box(alloc: Global, g: &MultiGraph) -> Result<Tree, Refused>
+    ensures { IfOk result (λ tree. IsDerivation g.now (shape_of tree)) }
+{
+    let last = |list: &[Candidate], _cuts: usize| -> usize
+        requires { 0 < length list.now }
+        ensures { result < length list.now }
+    { list.len() - 1 };
+    match Box::new(alloc, last) {
         Ok(function) => decompose(alloc, g, &ByFunction::new(function)),
         Err(_) => Err(Refused::Memory),
     }

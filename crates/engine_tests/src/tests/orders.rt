@@ -32,14 +32,16 @@ fn is_leaf(tree: &Tree) -> bool {
 }
 
 // A graph, by its order and its edges, an order of choice, and the shore of the only cut.
-static ONE_CUT: [(u32, &[(u32, u32)], Choice, &[u32]); 10] = [
+static ONE_CUT: [(u32, &[(u32, u32)], Choice, &[u32]); 12] = [
     (6, &HEXAGON, FIRST, &[2, 3, 4]),
-    (6, &HEXAGON, Choice::PastTheEnd, &[2, 3, 4]),
+    (6, &HEXAGON, Choice::Boxed, &[1, 2, 3]),
+    (6, &HEXAGON, Choice::Borrowing, &[2, 3, 4]),
     (6, &HEXAGON, LAST, &[1, 2, 3]),
     (6, &HEXAGON, Choice::Named(NamedOrder::Balanced), &[2, 3, 4]),
     (6, &HEXAGON, Choice::Scripted, &[1, 2, 3]),
     (8, &TRIANGLE_IN_K33, FIRST, &[1, 2, 3]),
-    (8, &TRIANGLE_IN_K33, Choice::PastTheEnd, &[1, 2, 3]),
+    (8, &TRIANGLE_IN_K33, Choice::Boxed, &[1, 2, 3]),
+    (8, &TRIANGLE_IN_K33, Choice::Borrowing, &[1, 2, 3]),
     (8, &TRIANGLE_IN_K33, LAST, &[1, 2, 3]),
     (
         8,

@@ -1,4 +1,4 @@
-use Rattle.std.proofs.Common.{ap, length, arith, rules}
+use Rattle.std.proofs.Common.{ap, arith, rules}
 use Rattle.tree_core.proofs.Common.{cut_count, shape_of, blocks-below}
 use Rattle.decomposer.proofs.Picking.{cut-finds}
 use Rattle.decomposer.proofs.decomposition.+decomposing.Goals as goal
@@ -6,7 +6,7 @@ use Rattle.decomposer.proofs.decomposition.+decomposing.Goals as goal
 pub decompose_at-decompose_cut-requires : goal.decompose_at-decompose_cut-requires
 decompose_at-decompose_cut-requires g t c κs within =
     let falls = c.decreases in
-    (first_of (omega arith, search rules), (within, (c.in_ok-picked.ensures.picked.cut c.in-Some.shore c.in-Some.is, (c.in_ok-picked.ensures.picked.picked c.in-Some.shore c.in-Some.is, (c.requires.few, c.in_ok-picked.ensures.clusters)))))
+    (first_of (omega arith, search rules), (within, (c.in_ok-picked.ensures.picked.cut c.in-Some.shore c.in-Some.is, (c.in_ok-picked.ensures.picked.picked c.in-Some.shore c.in-Some.is, (c.requires.few, (c.in_ok-picked.ensures.clusters, c.requires.asked))))))
 
 pub decompose_at-returns-in-Some-clause-few : goal.decompose_at-returns-in-Some-clause-few
 decompose_at-returns-in-Some-clause-few g t c = grind arith
@@ -20,11 +20,12 @@ decompose_cut-decompose_at-requires-2 g t c κs within =
     let after = c.in_ok-kept.ensures.made.cuts in
     let bound = c.requires.few in
     let falls = c.decreases in
-    (first_of (omega arith, search rules), (within, (omega arith, grind arith)))
+    let graph = c.in_ok-outside.ensures.graph in
+    (first_of (omega arith, search rules), (within, (omega arith, (grind arith, grind arith))))
 
 pub decompose_cut-returns-clause-made : goal.decompose_cut-returns-clause-made
 decompose_cut-returns-clause-made g t c =
-    cut-finds (g.O.Order.picks c.args.order.now) c.args.place.now c.in_ok-inside.inside c.in_ok-outside.outside c.args.shore c.args.before c.in_ok-kept.between c.in_ok-merged.after (shape_of c.in_ok-tree.tree) (shape_of c.in_ok-kept.kept) (shape_of c.in_ok-merged.merged)
+    cut-finds (g.P.Picker.picks c.args.order.now) c.args.place.now c.in_ok-inside.inside c.in_ok-outside.outside c.args.shore c.args.before c.in_ok-kept.between c.in_ok-merged.after (shape_of c.in_ok-tree.tree) (shape_of c.in_ok-kept.kept) (shape_of c.in_ok-merged.merged)
     c.args.leaves.now.items c.decompose_at.new.leaves.items c.decompose_at-2.new.leaves.items
     (λ i. record { graph = c.in_ok-inside.ensures.graph i; blocks = c.in_ok-inside.ensures.blocks i })
     (λ i. record { graph = c.in_ok-outside.ensures.graph i; blocks = c.in_ok-outside.ensures.blocks i })

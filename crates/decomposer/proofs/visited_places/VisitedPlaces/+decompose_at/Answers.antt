@@ -5,13 +5,13 @@ use Rattle.decomposer.proofs.visited_places.VisitedPlaces.+decompose_at.Goals as
 
 pub merged-requires : goal.merged-requires
 merged-requires g t c =
-    let is = c.listed_shore.ensures c.visited.inside.place.graph c.visited.inside.place.blocks c.visited.invariant in
+    let is = c.listed_shore.ensures in
     let cuts = is.cut c.in-Some.shore c.in-Some.is in
     grind arith
 
 pub decompose_at-requires : goal.decompose_at-requires
 decompose_at-requires g t c κs within =
-    let is = c.listed_shore.ensures c.visited.inside.place.graph c.visited.inside.place.blocks c.visited.invariant in
+    let is = c.listed_shore.ensures in
     let here : c.visited.inside.place ≡ c.args.place = c.visited.view_is ∙ c.index-visited.ensures ∙ get_or_from_slice_get c.visit.new.visited.items c.in_ok-number.number c.args.place c.index-visited.result.now c.in_ok-number.ensures.number in
     let one : c.place.result.now ≡ c.visited.inside.place = grind arith in
     let two : c.place-in-Some.result.now ≡ c.visited.inside.place = grind arith in
@@ -25,7 +25,7 @@ decompose_at-requires g t c κs within =
 
 pub decompose_at-requires-in-Some : goal.decompose_at-requires-in-Some
 decompose_at-requires-in-Some g t c κs within =
-    let is = c.listed_shore.ensures c.visited.inside.place.graph c.visited.inside.place.blocks c.visited.invariant in
+    let is = c.listed_shore.ensures in
     let here : c.visited.inside.place ≡ c.args.place = c.visited.view_is ∙ c.index-visited.ensures ∙ get_or_from_slice_get c.visit.new.visited.items c.in_ok-number.number c.args.place c.index-visited.result.now c.in_ok-number.ensures.number in
     let one : c.place.result.now ≡ c.visited.inside.place = grind arith in
     let two : c.place-in-Some.result.now ≡ c.visited.inside.place = grind arith in
@@ -41,7 +41,7 @@ decompose_at-requires-in-Some g t c κs within =
 
 pub returns-in_ok-push-in-None-clause-made : goal.returns-in_ok-push-in-None-clause-made
 returns-in_ok-push-in-None-clause-made g t c =
-    let is = c.listed_shore.ensures c.visited.inside.place.graph c.visited.inside.place.blocks c.visited.invariant in
+    let is = c.listed_shore.ensures in
     let here : c.visited.inside.place ≡ c.args.place = c.visited.view_is ∙ c.index-visited.ensures ∙ get_or_from_slice_get c.visit.new.visited.items c.in_ok-number.number c.args.place c.index-visited.result.now c.in_ok-number.ensures.number in
     let none = is.none c.in-None.is in
     let leaf = is.leaf c.in-None.is in
@@ -49,7 +49,7 @@ returns-in_ok-push-in-None-clause-made g t c =
 
 pub returns-in_ok-tree-in-Some-clause-made : goal.returns-in_ok-tree-in-Some-clause-made
 returns-in_ok-tree-in-Some-clause-made g t c =
-    let is = c.listed_shore.ensures c.visited.inside.place.graph c.visited.inside.place.blocks c.visited.invariant in
+    let is = c.listed_shore.ensures in
     let here : c.visited.inside.place ≡ c.args.place = c.visited.view_is ∙ c.index-visited.ensures ∙ get_or_from_slice_get c.visit.new.visited.items c.in_ok-number.number c.args.place c.index-visited.result.now c.in_ok-number.ensures.number in
     let one : c.place.result.now ≡ c.args.place = grind arith in
     let two : c.place-in-Some.result.now ≡ c.args.place = grind arith in
@@ -64,7 +64,7 @@ returns-in_ok-tree-in-Some-clause-made g t c =
 
 pub returns-in_ok-tree-in-Some-clause-few : goal.returns-in_ok-tree-in-Some-clause-few
 returns-in_ok-tree-in-Some-clause-few g t c =
-    let is = c.listed_shore.ensures c.visited.inside.place.graph c.visited.inside.place.blocks c.visited.invariant in
+    let is = c.listed_shore.ensures in
     let here : c.visited.inside.place ≡ c.args.place = c.visited.view_is ∙ c.index-visited.ensures ∙ get_or_from_slice_get c.visit.new.visited.items c.in_ok-number.number c.args.place c.index-visited.result.now c.in_ok-number.ensures.number in
     let one : c.place.result.now ≡ c.visited.inside.place = grind arith in
     let two : c.place-in-Some.result.now ≡ c.visited.inside.place = grind arith in

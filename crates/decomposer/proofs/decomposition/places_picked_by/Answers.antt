@@ -1,5 +1,5 @@
 use Rattle.std.proofs.Common.{arith}
-use Rattle.decomposer.proofs.decomposition.decompose_places.Goals as goal
+use Rattle.decomposer.proofs.decomposition.places_picked_by.Goals as goal
 
 pub decompose_at-requires-clause-clusters : goal.decompose_at-requires-clause-clusters
 decompose_at-requires-clause-clusters g c = let known = c.in_ok-clusters.ensures.places c.in_ok-root.root.blocks in grind arith
