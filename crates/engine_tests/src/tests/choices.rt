@@ -45,8 +45,11 @@ pub fn decomposed(alloc: Global, g: &MultiGraph, choice: Choice) -> Result<Tree,
 fn decomposed_by_parity(alloc: Global, g: &MultiGraph) -> Result<Tree, Refused>
     ensures { IfOk result (λ tree. IsDerivation g.now (shape_of tree)) }
 {
-    let by_parity =
-        |list: &[Candidate], _cuts: usize| if g.order() % 2 == 0 { 0 } else { list.len() - 1 };
+    let by_parity = |list: &[Candidate], _cuts: usize| if g.order() % 2 == 0 {
+        0
+    } else {
+        list.len() - 1
+    };
     decompose_by(alloc, g, &by_parity)
 }
 
