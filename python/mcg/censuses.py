@@ -26,7 +26,11 @@ Progress = Callable[[int], None]
 
 class Census(NamedTuple):
     """What a call of `census` did: the number of the list in the file, how many of its lines are done
-    now, and how many of these by this call."""
+    now, and how many of these by this call.
+
+    >>> Census(1, 27, 27).new
+    27
+    """
 
     list: int
     lines: int

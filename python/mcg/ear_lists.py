@@ -132,6 +132,14 @@ class Ears(Drawable):
 
         return draw_ears(self, graph, **options)
 
+    def _bare(self, options: Dict[str, Any]) -> Picture:
+        from .draw.ears import graph_of
+        from .draw.graphs import on_circle
+
+        given = options.get("graph")
+        around = on_circle((graph_of(self) if given is None else Graph(given)).vertices)
+        return self.draw(**{**options, "pos": around})
+
     def to_dot(self) -> str:
         """Returns the graph for Graphviz, each edge with the number of its step."""
         from .draw.ears import ears_dot

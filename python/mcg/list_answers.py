@@ -41,6 +41,14 @@ class Kind:
     bicritical: Optional[bool]
     given: Any = field(default=None, compare=False)
 
+    @classmethod
+    def of(cls, *values: Any) -> Kind:
+        """Returns the kind with these values of all fields. They are set at once, which takes less
+        time than the frozen class takes, and a list can have millions."""
+        made = object.__new__(cls)
+        made.__dict__.update(zip(_KIND_FIELDS, values))
+        return made
+
     def __repr__(self) -> str:
         what = f"not matching covered ({self.reason})"
         if self.covered:
@@ -58,6 +66,9 @@ class Kind:
         `BadText`."""
         with dicts.understood("a kind"):
             return cls(**given, given=graph)
+
+
+_KIND_FIELDS = tuple(it.name for it in fields(Kind))
 
 
 @dataclass(frozen=True, repr=False)

@@ -19,6 +19,10 @@ Answer = TypeVar("Answer")
 # in memory for longer.
 SESSION = 8192
 
+# Words of the lines of `mcg6 kinds`.
+KIND_WORDS = {b"brick": "brick", b"brace": "brace", b"composite": "composite"}
+ANSWERS = {b"yes": True, b"no": False}
+
 
 def kinds(
     graphs: Iterable[GraphLike],
@@ -150,17 +154,18 @@ def answers(
 
 def _kind(row: bytes, session: Session) -> Kind:
     """The parts of a line of `mcg6 kinds`."""
-    text, order, size, word, *more = row.decode("ascii").split(" ")
-    sent = session.text_of(text.encode("ascii"))
-    about = sent.number, text, int(order), int(size)
-    if word == "uncovered":
+    line, order, size, word, *more = row.split(b" ")
+    sent = session.text_of(line)
+    about = sent.number, line.decode("ascii"), int(order), int(size)
+    if word == b"uncovered":
         reason, deficiency = more
-        return Kind(*about, False, reason, int(deficiency), None, None, None, None, sent.given)
+        faults = reason.decode("ascii"), int(deficiency)
+        return Kind.of(*about, False, *faults, None, None, None, None, sent.given)
     bricks, braces, name, answer = more
-    is_known = word in ("brick", "brace", "composite") and answer in ("yes", "no")
-    if not is_known or name != "bicritical":
+    if name != b"bicritical":
         raise ValueError(row)
-    return Kind(*about, True, None, 0, word, int(bricks), int(braces), answer == "yes", sent.given)
+    known = KIND_WORDS[word], int(bricks), int(braces), ANSWERS[answer]
+    return Kind.of(*about, True, None, 0, *known, sent.given)
 
 
 def _given(row: bytes, session: Session) -> Any:

@@ -180,6 +180,10 @@ def _text(graph: Any) -> str:
 def _line(graph: Any) -> Tuple[bytes, Optional[Graph]]:
     """The line of a graph, without its end, and the graph if it has labels. Raises `BadGraph` or
     `TooLarge` for what has no line."""
+    if isinstance(graph, str):  # most lines are plain, and many
+        plain = graph[:-1] if graph.endswith("\n") else graph
+        if len(plain) < MOST_LINE and plain.isascii() and plain.isprintable() and plain[:1] != ">":
+            return plain.encode("ascii"), None
     if not isinstance(graph, (str, bytes)):
         numbered = Graph(graph)
         demand_size(numbered.order, len({(min(it), max(it)) for it in numbered.ends}))

@@ -55,7 +55,8 @@ class Tightness:
         return self.tight
 
     def __repr__(self) -> str:
-        return f"<Tightness: {'tight' if self.tight else 'not tight'} ({self.reason})>"
+        word = "tight" if self.tight else "not tight"
+        return f"<Tightness: {word}>" if word == self.reason else f"<Tightness: {word} ({self.reason})>"
 
     def __str__(self) -> str:
         return f"{'tight' if self.tight else 'not tight'}: {REASONS[self.reason]}"

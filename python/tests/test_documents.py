@@ -12,8 +12,13 @@ import tempfile
 import unittest
 
 from support import ROOT, WITHOUT_NETWORKX, mcg, networkx
+from test_list_structures import stand_in
+from test_verify_lists import NEW, knows
 
 import mcg.verify
+
+# The modules whose examples call the new words of mcg6.
+NEW_MODULES = ("mcg.list_cuts", "mcg.list_ears", "mcg.list_matchings")
 
 
 class Documents(unittest.TestCase):
@@ -49,7 +54,11 @@ class Documents(unittest.TestCase):
             except ImportError:
                 missing.append(name)
                 continue
-            failed, tried = doctest.testmod(module, verbose=False)
+            with tempfile.TemporaryDirectory() as folder, contextlib.ExitStack() as stack:
+                if name in NEW_MODULES and not all(map(knows, NEW)):  # (those tests of the program itself are counted as skipped)
+                    for it in stand_in(folder):
+                        stack.enter_context(it)
+                failed, tried = doctest.testmod(module, verbose=False)
             self.assertEqual(failed, 0, name)
             total += tried
         self.assertEqual(doctest.testmod(mcg, verbose=False).failed, 0)

@@ -58,6 +58,21 @@ print(mcg.decompose({CYCLE!r})._repr_svg_(), mcg.decompose({CYCLE!r}).to_dot().c
 """
         self.assertEqual(ran(code, "numpy", "networkx", "matplotlib"), "True True True\nTrue\nTrue\nNone 4\n")
 
+    def test_tikz_without_other_packages(self):
+        """Trees in outline, ears and graphs on a circle; the texts of vertices and sets are there. With the packages it is the same
+        call that draws all graphs."""
+        code = """
+import mcg
+G = [(1, 2), (2, 3), (3, 4), (4, 5), (5, 6), (6, 1)]
+first, last = mcg.decompose(G), mcg.decompose(G, [1])
+for text in (first.to_tikz(), mcg.compare(G, first, last).to_tikz(), mcg.ears(G).to_tikz(), mcg.draw.to_tikz(G), mcg.draw.to_tikz(G, True)):
+    print(text.startswith("\\\\definecolor"), text.count("circle"), "= \\\\{2, 3, 4\\\\}" in text)
+"""
+        bare = ran(code, "numpy", "networkx", "matplotlib")
+        self.assertEqual(bare.split(), "True 1 True True 4 True True 12 False True 6 False True 8 False".split())
+        if HAS_LAYOUT:
+            self.assertGreater(int(ran(code).split()[1]), 6)
+
     def test_what_is_missing_is_named(self):
         for call, without, words in (
             (f"mcg.draw.draw({CYCLE!r})", ["numpy"], "python3-numpy"),

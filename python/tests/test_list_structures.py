@@ -9,11 +9,14 @@ import random
 import sys
 import tempfile
 import unittest
+from dataclasses import replace
 from unittest import mock
 
 import brute_lists
 from support import HERE, brute_of, covered, cycle, drawn, mcg, program_of
 from test_verify_lists import NEW, knows
+
+import mcg.verify
 
 
 def stand_in(folder):
@@ -124,6 +127,27 @@ class Structures:
                 with self.subTest(row=row), tempfile.TemporaryDirectory() as folder, program_of(folder, f"cat >/dev/null; echo '{row}'"):
                     with self.assertRaises(mcg.ProgramFailed):
                         list(asked(["C~"]))
+
+
+    def test_the_second_opinion(self):
+        """It agrees with the answers, and contradicts each that was changed."""
+        graphs = [*drawn(87, 12), "C~", "EhEG", "Cs"]
+        matchings, cuts, ears = list(mcg.matchings(graphs)), list(mcg.cuts(graphs)), list(mcg.ears_of(graphs))
+        mcg.verify.matchings(graphs, matchings)
+        mcg.verify.cuts(graphs, cuts)
+        mcg.verify.ears_of(graphs, ears)
+        for judge, answers in ((mcg.verify.matchings, matchings), (mcg.verify.cuts, cuts), (mcg.verify.ears_of, ears)):
+            for wrong in (answers[1:], answers[:-1], [*answers, answers[-1]], [replace(answers[0], index=answers[0].index + 1), *answers[1:]]):
+                with self.subTest(judge=judge.__name__), self.assertRaises(mcg.verify.Wrong):
+                    judge(graphs, wrong)
+        star, hexagon, cube = matchings[-1], cuts[-1], ears[-1]
+        for judge, answers, wrong in (
+            (mcg.verify.matchings, matchings, replace(star, A=star.D)), (mcg.verify.matchings, matchings, replace(star, edges=[])),
+            (mcg.verify.cuts, cuts, replace(hexagon, origin="barrier")), (mcg.verify.cuts, cuts, replace(hexagon, shore=frozenset([0, 1, 5]))),
+            (mcg.verify.ears_of, ears, replace(cube, ears=mcg.Ears(cube.ears.start, cube.ears.steps[1:], cube.ears.graph))),
+        ):
+            with self.assertRaises(mcg.verify.Wrong):
+                judge(graphs, [*answers[:-1], wrong])
 
 
 class WithStandIn(Structures, unittest.TestCase):

@@ -8,10 +8,11 @@ import shutil
 import subprocess
 import tempfile
 import unittest
+from dataclasses import replace
 
 import brute_lists
 import unlabelled
-from support import ROOT, cycle, mcg
+from support import ROOT, cycle, drawn, mcg
 
 import mcg.verify
 import mcg.verify.__main__ as program
@@ -310,6 +311,38 @@ class Contradicts(unittest.TestCase):
         run()
         self.assertEqual(judged.lines, 3000)
         self.assertLess(len(judged._dues.seen) + len(judged._rows.seen), 100)
+
+
+class Answers(unittest.TestCase):
+    """The answers of the functions on lists."""
+
+    def test_answers_and_changed_ones(self):
+        draw = random.Random(57)
+        graphs = [*drawn(57, 40), *(random_text(draw, 8, draw.random() / 2) for _ in range(20)), "C~", "Ch", "E~rG"]
+        kinds, leaves = list(mcg.kinds(graphs)), list(mcg.leaves(graphs, "last"))
+        parts, bricks = list(mcg.elementary(graphs)), list(mcg.select(graphs, "brick"))
+        mcg.verify.kinds(graphs, iter(kinds))
+        mcg.verify.leaves(graphs, leaves, "last")
+        mcg.verify.elementary(graphs, parts)
+        mcg.verify.select(graphs, bricks, "brick")
+        last = kinds[-1]
+        wrong = [replace(last, **it) for it in ({"kind": "brick"}, {"bricks": 1}, {"bicritical": False}, {"deficiency": 2}, {"order": 5}, {"covered": False}, {"reason": "edge"}, {"index": 1})]
+        for it in wrong:
+            with self.subTest(answer=it), self.assertRaises(Wrong):
+                mcg.verify.kinds(graphs, [*kinds[:-1], it])
+        for judge, answers, more in ((mcg.verify.kinds, kinds, ()), (mcg.verify.leaves, leaves, ("last",)), (mcg.verify.elementary, parts, ()), (mcg.verify.select, bricks, ("brick",))):
+            for changed in (answers[1:], answers[:-1], [*answers, answers[-1]], answers[::-1]):
+                with self.subTest(judge=judge.__name__), self.assertRaises(Wrong):
+                    judge(graphs, changed, *more)
+        with self.assertRaises(Wrong):
+            mcg.verify.leaves(graphs, [*leaves[:-1], replace(leaves[-1], kind="brace")], "last")
+
+    def test_bad_graphs(self):
+        graphs = ["C~", "x!", [(1, 1)], "Bw"]
+        found = list(mcg.kinds(graphs, skipped=[]))
+        mcg.verify.kinds(graphs, found, skips=True)
+        with self.assertRaises(mcg.BadGraph):
+            mcg.verify.kinds(graphs, found)
 
 
 class Program(unittest.TestCase):

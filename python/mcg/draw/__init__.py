@@ -19,7 +19,7 @@ if TYPE_CHECKING:
     from .cuts import draw_cut
     from .decompositions import draw_decomposition
     from .ears import draw_ears
-    from .graphs import draw, to_dot
+    from .graphs import draw, to_dot, to_tikz
     from .pages import page
 
 __all__ = [
@@ -31,12 +31,14 @@ __all__ = [
     "draw_ears",
     "page",
     "to_dot",
+    "to_tikz",
 ]
 
 # Where each function is; a module is imported when it is used, as some need other packages.
 _PLACES = {
     "draw": "graphs",
     "to_dot": "graphs",
+    "to_tikz": "graphs",
     "draw_decomposition": "decompositions",
     "draw_ears": "ears",
     "draw_comparison": "comparisons",

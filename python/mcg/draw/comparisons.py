@@ -10,8 +10,19 @@ from .decompositions import MOST_LEAVES
 from .dot import quoted
 from .graphs import Positions, named, places_of
 from .lists import add_names, add_sets
+from .names import short_names
 from .needs import laid_out
-from .nodes import Names, Node, PlainTree, Set, leaf_marks, names_of, smaller_sets, tree_of
+from .nodes import (
+    NamedSet,
+    Names,
+    Node,
+    PlainTree,
+    Set,
+    leaf_marks,
+    names_of,
+    smaller_sets,
+    tree_of,
+)
 from .outlines import outline
 from .picture import Picture, finished
 from .plain import name_of
@@ -120,8 +131,9 @@ def draw_comparison(
     40). Shores of one tree alone are rust, those of both are blue.
 
     With more than six leaves it shows for each tree the graph with each vertex lettered by its leaf,
-    and the tree in outline; `graphs=True` draws the graph at each node all the same. `pos`, `labels`
-    and `ax` as for `draw`. Raises `ImportError` without NumPy and NetworkX.
+    and the tree in outline. `graphs=True` draws the graph at each node all the same, and
+    `graphs=False` the outlines alone, which need no other package. `pos`, `labels` and `ax` as for
+    `draw`. Raises `ImportError` without NumPy and NetworkX if graphs are drawn.
     """
     graph = comparison.first.graph
     plain = named(graph, labels)
@@ -132,11 +144,14 @@ def draw_comparison(
     listed = [shore for tree in (first, second) for shore in tree.shores()]
     listed += [shore for stage in stages for shore in stage.tree.shores()]
     names = names_of(listed, plain.order)
-    places = places_of(graph, plain, pos, first.shores() + second.shores())
-    if graphs or (graphs is None and len(order) <= MOST_LEAVES):
-        scene = both_trees(comparison, first, second, order, names, places)
+    if graphs is False:
+        scene = both_outlines(first, second, order, names)
     else:
-        scene = both_maps(first, second, order, names, places)
+        places = places_of(graph, plain, pos, first.shores() + second.shores())
+        if graphs or len(order) <= MOST_LEAVES:
+            scene = both_trees(comparison, first, second, order, names, places)
+        else:
+            scene = both_maps(first, second, order, names, places)
     if comparison.moves:
         low, wide = scene.box[3] + 16, scene.wide
         row = strip(stages, comparison.moves, names, max(wide, _WIDEST))
@@ -171,8 +186,7 @@ def both_trees(
     for it in (one, other):
         scene.put(it.scene, x - it.scene.box[0], top - it.root[1])
         x += it.scene.wide + _BETWEEN
-    shores = sorted(set(first.shores() + second.shores()), key=lambda s: _number(names[s]))
-    add_sets(scene, smaller_sets(shores, first.whole.order, names), shared.short)
+    add_sets(scene, _sets_of(first, second, names), shared.short)
     add_names(scene, shared.key)
     return scene
 
@@ -182,14 +196,39 @@ def both_maps(
 ) -> Scene:
     """Returns two trees with many leaves side by side: the graph lettered by the leaves of each, and
     the tree in outline."""
-    odd, scene, x = set(first.shores()) ^ set(second.shores()), Scene(), 0.0
-    for tree, letters in ((first, range(len(order))), (second, order)):
-        tree.root.places = places
-        marks = leaf_marks(len(order), letters)
-        it: Scene = laid_out("maps").overview(tree, names, marks, odd)
-        scene.put(it, x - it.box[0], -it.box[1])
-        x += it.wide + _BETWEEN
+    first.root.places = second.root.places = places
+    odd = set(first.shores()) ^ set(second.shores())
+    marks = leaf_marks(len(order)), leaf_marks(len(order), order)
+    overview = laid_out("maps").overview
+    return _beside(*(overview(tree, names, it, odd) for tree, it in zip((first, second), marks)))
+
+
+def both_outlines(
+    first: PlainTree, second: PlainTree, order: Sequence[int], names: Names
+) -> Scene:
+    """Returns two trees in outline side by side, with the sets that their names stand for."""
+    odd = set(first.shores()) ^ set(second.shores())
+    marks = leaf_marks(len(order)), leaf_marks(len(order), order)
+    trees = zip((first, second), marks)
+    scene = _beside(*(outline(tree, names, it, odd, captions=True) for tree, it in trees))
+    short, key = short_names(first.whole.names)
+    add_sets(scene, _sets_of(first, second, names), short)
+    add_names(scene, key)
     return scene
+
+
+def _beside(one: Scene, other: Scene) -> Scene:
+    """Two scenes side by side, as high as each other."""
+    scene = Scene()
+    scene.put(one, -one.box[0], -one.box[1])
+    scene.put(other, one.wide + _BETWEEN - other.box[0], -other.box[1])
+    return scene
+
+
+def _sets_of(first: PlainTree, second: PlainTree, names: Names) -> List[NamedSet]:
+    """The shores of two trees, by the numbers in their names."""
+    shores = sorted(set(first.shores() + second.shores()), key=lambda s: _number(names[s]))
+    return smaller_sets(shores, first.whole.order, names)
 
 
 def _number(name: Runs) -> int:

@@ -83,6 +83,22 @@ def to_dot(graph: GraphLike) -> str:
     return bare_dot(PlainGraph.of(Graph(graph)))
 
 
+def to_tikz(graph: GraphLike, analysis: Union[bool, Analysis] = False, **options: Any) -> str:
+    """Returns a graph as a `tikzpicture` for LaTeX; the options are those of `draw`. Without NumPy
+    and NetworkX, which find places, its vertices are on a circle."""
+    try:
+        return draw(graph, analysis, **options).to_tikz()
+    except ImportError:
+        options["pos"] = on_circle(Graph(graph).vertices)
+        return draw(graph, analysis, **options).to_tikz()
+
+
+def on_circle(vertices: Sequence[Label]) -> Positions:
+    """Returns places on a circle, in the order of the vertices, the first at the top."""
+    turns = {vertex: 2 * math.pi * k / len(vertices) for k, vertex in enumerate(vertices)}
+    return {vertex: (math.sin(turn), math.cos(turn)) for vertex, turn in turns.items()}
+
+
 def named(graph: Graph, labels: Optional[Mapping[Any, object]]) -> PlainGraph:
     """Returns the graph as pictures need it, with other texts for some labels."""
     plain = PlainGraph.of(graph)

@@ -24,6 +24,7 @@ Reports of `mcg6` are judged against their lists, line by line: `list_report` an
 definition.
 """
 from .files import report
+from .list_answers import cuts, ears_of, elementary, kinds, leaves, matchings, select
 from .lists import Judged, LineFault, list_report
 from .moves import compare, replay
 from .stages import check_ears, ears
@@ -38,9 +39,16 @@ __all__ = [
     "check",
     "check_ears",
     "compare",
+    "cuts",
     "decompose",
     "ears",
+    "ears_of",
+    "elementary",
+    "kinds",
+    "leaves",
     "list_report",
+    "matchings",
     "replay",
     "report",
+    "select",
 ]
