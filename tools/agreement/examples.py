@@ -9,6 +9,8 @@ import re
 
 TESTS = ["crates/engine_tests/src/tests/examples.rt", "crates/text_tests/src/tests/examples.rt"]
 
+# How many tests of examples there are at least.
+LEAST = 12
 # The calls with an example: where each is, how its line begins, and the name of its test after `shows_`.
 EXAMPLES = [
     ("graph_facts/src/facts.rt", "    pub fn of(", "facts"),
@@ -58,6 +60,8 @@ def main():
     wrong = [f"crates/{path}: the example of `{name}` is not the text of the test shows_{name}"
              for path, start, name in EXAMPLES if not example(path, start) or example(path, start) != found.get(name)]
     wrong += [f"{TESTS[0]} or {TESTS[1]}: shows_{name} is the text of no example" for name in sorted(set(found) - {it[2] for it in EXAMPLES})]
+    if len(found) < LEAST:
+        wrong.append(f"only {len(found)} tests of examples were found; there were {LEAST} at least")
     for line in wrong:
         print(line)
     if not wrong:
