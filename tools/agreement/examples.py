@@ -10,6 +10,8 @@ import re
 
 TESTS = ["crates/engine_tests/src/tests/examples.rt", "crates/text_tests/src/tests/examples.rt"]
 
+# How many tests of examples there are at least.
+LEAST = 12
 # The calls with an example: where each is, how its line begins, and the name of its test after `shows_`.
 EXAMPLES = [
     ("graph_facts/src/facts.rt", "    pub fn of(", "facts"),
@@ -69,6 +71,8 @@ def main():
     wrong += [f"docs/LIBRARY.md: crates/example_order does not have the block that begins with {it!r}" for it in strange]
     wrong += ["docs/LIBRARY.md: it has fewer than 5 blocks of Rattle"] if len(shown) < 5 else []
     wrong += [f"{TESTS[0]} or {TESTS[1]}: shows_{name} is the text of no example" for name in sorted(set(found) - {it[2] for it in EXAMPLES})]
+    if len(found) < LEAST:
+        wrong.append(f"only {len(found)} tests of examples were found; there were {LEAST} at least")
     for line in wrong:
         print(line)
     if not wrong:

@@ -8,6 +8,8 @@ import pathlib
 import re
 
 DOCUMENT = pathlib.Path("docs/dev/KEPT.md")
+# How many tests the document lists at least.
+LEAST = 200
 TOKEN = re.compile(r'("(?:\\.|[^"\\])*"|\'(?:\\.|[^\'\\])\')|//[^\n]*|/\*.*?\*/', re.S)
 ITEM = re.compile(r"^(#\[test\]\n)?(?:pub )?(?:fn|static|const) (\w+)\b.*?(?:[;}]$)(?=\n\n|\n*\Z)", re.M | re.S)
 
@@ -64,8 +66,10 @@ def main():
         lost = [file for file in files if not file.is_file()]
         found = [f"there is no file {it}" for it in lost] if lost else faults(files, texts)
         wrong += [f"{what}: {', '.join(map(str, files))}: {it}" for it in found]
+    if count < LEAST:
+        wrong.append(f"only {count} tests were found; there were {LEAST} at least")
     for line in wrong:
         print(f"{DOCUMENT}: {line}")
-    if count and not wrong:
+    if not wrong:
         print(f"each of the {count} tests that {DOCUMENT} lists is there")
-    return 1 if wrong or not count else 0
+    return 1 if wrong else 0

@@ -4,6 +4,8 @@ import pathlib
 import re
 
 DOCUMENT = pathlib.Path("docs/dev/PROVED.md")
+# How many public laws there are at least.
+LEAST = 150
 
 
 def laws():
@@ -18,9 +20,11 @@ def laws():
 def main():
     named = set(re.findall(r"\w+", DOCUMENT.read_text()))
     known = list(laws())
-    missing = [it for it in known if it[1] not in named]
-    for crate, name in missing:
-        print(f"{DOCUMENT}: it does not name the law {name} of {crate}")
-    if known and not missing:
+    wrong = [f"it does not name the law {name} of {crate}" for crate, name in known if name not in named]
+    if len(known) < LEAST:
+        wrong.append(f"only {len(known)} public laws were found; there were {LEAST} at least")
+    for line in wrong:
+        print(f"{DOCUMENT}: {line}")
+    if not wrong:
         print(f"{DOCUMENT} names each of the {len(known)} public laws")
-    return 1 if missing or not known else 0
+    return 1 if wrong else 0

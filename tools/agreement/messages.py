@@ -17,6 +17,8 @@ UNSAID = {
     "(here r mcg N M, with the N and M of the graph)",
     "(here m mcg N, with the N of the graph)",
 }
+# How many texts are compared at least.
+LEAST = 130
 # A comment, a literal of text or bytes, and a letter in quotes, which is no text.
 TOKEN = re.compile(r"""//[^\n]*|(b?)"((?:[^"\\]|\\.)*)"|b?'(?:\\.|[^'\\])'""", re.S)
 
@@ -54,6 +56,8 @@ def main():
         source = read(path)
         said |= {it for it in lines_of([*literals(source), *literals(source, "b")]) if it.startswith("mcg") and ": " in it}
     cases = "\n".join(it[2:] for it in read("tests/front.cases").splitlines() if it[:2] in ("> ", "! ")) + read("tests/front")
-    wrong = sorted(it for it in said - UNSAID if it not in cases)
-    print("\n".join(f"no case of tests/front has: {it}" for it in wrong) if wrong else f"messages: each of {len(said)} texts is in a case of tests/front")
+    wrong = [f"no case of tests/front has: {it}" for it in sorted(said - UNSAID) if it not in cases]
+    if len(said) < LEAST:
+        wrong.append(f"only {len(said)} texts were found; there were {LEAST} at least")
+    print("\n".join(wrong) if wrong else f"messages: each of {len(said)} texts is in a case of tests/front")
     return 1 if wrong else 0

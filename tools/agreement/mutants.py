@@ -12,6 +12,8 @@ import re
 
 DOCUMENT = pathlib.Path("docs/dev/PROVED.md")
 HEADING = "## Mutants that the gate rejects"
+# How many mutants there are at least, and how many of them PROVED names.
+LEAST, LEAST_NAMED = 330, 40
 
 
 def edits(folder):
@@ -76,10 +78,12 @@ def main():
                 wrong.append(
                     f"{DOCUMENT}: {name} is not the text that was read ({read or 'no checksum'}): if it still "
                     f"has the meaning of its row, write {checksum(tried[name])} after its name")
+    if len(known) < LEAST or count < LEAST_NAMED:
+        wrong.append(f"only {len(known)} mutants were found, and {DOCUMENT} names {count}; there were {LEAST} and {LEAST_NAMED} at least")
     for line in wrong:
         print(line)
-    if not wrong and count:
+    if not wrong:
         print(
             f"each of the {len(known)} mutants says what it changes and fits its file; the gate tries "
             f"{len(tried)}, and {DOCUMENT} names {count} of them")
-    return 1 if wrong or not count else 0
+    return 1 if wrong else 0

@@ -10,6 +10,8 @@ import re
 
 DOCUMENT = pathlib.Path("docs/THEOREMS.md")
 TESTS = pathlib.Path("crates/premise_tests/src/tests")
+# How many premises there are at least.
+LEAST = 120
 
 # Premises that no graph of those tests can lack: the test that shows each, by its file and a text in it.
 ELSEWHERE = {
@@ -74,8 +76,10 @@ def main():
         wrong += [f"{DOCUMENT} does not name the graph {it!r} of a test: {premise}"
                   for it in shown if not any(it in graph for graph in graphs)]
     wrong += [f"{DOCUMENT} has no such premise: {premise}" for premise in [*tried, *ELSEWHERE] if premise not in known]
+    if len(known) < LEAST:
+        wrong.append(f"{DOCUMENT}: only {len(known)} premises were found; there were {LEAST} at least")
     for line in wrong:
         print(line)
-    if known and not wrong:
+    if not wrong:
         print(f"each of the {len(known)} premises of {DOCUMENT} has a test that shows that it is needed")
-    return 1 if wrong or not known else 0
+    return 1 if wrong else 0

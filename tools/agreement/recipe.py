@@ -10,6 +10,8 @@ import re
 DOCUMENT = pathlib.Path("docs/dev/ARCHITECTURE.md")
 COMMAND = re.compile(rb"\banalyse6\b", re.I)
 
+# How many files name the command at least, but for the exceptions.
+LEAST = 35
 # Files that name the command and are none of the recipe's, each with the reason.
 EXCEPTIONS = {
     "crates/bench_top/src/laws.rt": "a comment",
@@ -58,6 +60,8 @@ def main():
     wrong = [f"the recipe for a command does not name {path}, which names analyse6" for path in unnamed]
     wrong += [f"the recipe for a command names {name}, which is not there" for step in steps for name in lost(step)]
     wrong += [f"{path} does not name analyse6: drop it from the exceptions of tools/agreement/recipe.py" for path in idle]
+    if len(found) - len(EXCEPTIONS) < LEAST:
+        wrong.append(f"only {len(found) - len(EXCEPTIONS)} files that name analyse6 were found; there were {LEAST} at least")
     for line in wrong:
         print(f"{DOCUMENT}: {line}")
     if not wrong:
