@@ -4,6 +4,7 @@ use Rattle.std.specs.Prelude.{ℕ, List, [], codes, Bool, if◌then◌else◌, O
 use Rattle.line_text.specs.declared.faults.FaultKind.{FaultKind}
 use Rattle.bench_top.specs.from_bench_tasks.Common.{bytes_carried}
 use Rattle.bench_top.specs.from_bench_tasks.declared.stop.FaultyFile.{FaultyFile}
+use Rattle.bench_top.specs.from_bench_tasks.declared.stop.UnreadFile.{UnreadFile}
 use Rattle.bench_top.specs.from_bench_tasks.declared.stop.Stop.{Stop}
 use Rattle.bench_top.specs.from_bench_tasks.declared.stop.Stop.TheVariants as stop
 use Rattle.front_words.specs.from_refusals.declared.refusal.Refusal.{Refusal}
@@ -39,11 +40,15 @@ bad_words line kind found =
       text = carried_line (bytes_carried found) line;
     })
 
+-- of a file that could not be read: which it is, and why
+abbrev pub unread_words : UnreadFile → List ℕ
+unread_words unread = unread_text program unread.file.name.now unread.reason
+
 -- of a stop: of a bad file, or of one that could not be read, with the reason
 abbrev pub stop_words : Option Stop → List ℕ
 stop_words None = []
 stop_words (Some (stop.Bad file line kind found)) = bad_words line kind found
-stop_words (Some (stop.ReadFault file unread)) = unread_text program unread.file.name.now unread.reason
+stop_words (Some (stop.ReadFault file unread)) = unread_words unread
 stop_words (Some stop.Memory) = []
 
 -- of a refusal: what it means

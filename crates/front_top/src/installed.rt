@@ -1,9 +1,13 @@
 //! The program, at the shelf and the sinks that are installed.
-ghost use Rattle.std.specs.Prelude.{◌≡◌, [], IfErr, IfOk};
+ghost use Rattle.std.specs.Prelude.{◌≡◌, [], IfErr, IfOk, map, string_bytes};
+ghost use Rattle.bench_top.specs.from_bench_outcomes.Common.{code_of};
+ghost use Rattle.front_words.specs.Saying.{IsSaid};
 ghost use Rattle.front_top.specs.Installed.{EndsOn};
+ghost use Rattle.front_top.specs.Words.{message_words};
 
+use crate::ending::FrontEnding;
 use crate::fronting::run_front;
-use bench_top::outside::{DirShelf, LineSink, OutSink};
+use bench_top::outside::{DirShelf, LineSink, OutSink, Sink};
 use front_words::arguments::{Arguments, Refusal, read_arguments};
 use front_words::{is_quiet, say_unread_arguments};
 use std::rt::{Env, Files};
@@ -21,6 +25,17 @@ pub struct Ended<'a, R: Files + Print, E: Print> {
     pub sink: OutSink<'a, R>,
     /// The standard error after the run, with the bytes that it took.
     pub errors: LineSink<'a, E>,
+}
+
+// Says what is to be said, and returns the exit status.
+fn said_code<E: Sink>(ending: FrontEnding<'_>, errors: &mut E) -> u8
+    ensures code { result ≡ code_of ending.entry.status }
+    ensures says { IsSaid E.written E.writes E.faults
+        (message_words (map string_bytes ending.entry.words.now) ending.entry.message
+        ending.entry.is_abandoned) errors.old errors.new }
+{
+    ending.say(errors);
+    ending.status.code()
 }
 
 /// The program: reads the words of the command line, does what they ask for, as `run_front`, with
@@ -43,8 +58,7 @@ pub fn program<'a, R: Files + Print + Env + AllocGlobal, E: Print>(
     let code = match &read {
         Ok(read) => {
             let ending = run_front(alloc, &read.words, quiet, &mut shelf, &mut sink);
-            ending.say(&mut errors);
-            ending.status.code()
+            said_code(ending, &mut errors)
         }
         Err(refusal) => {
             if !quiet {

@@ -3,9 +3,9 @@ ghost use Rattle.std.specs.Prelude.{◌≡◌, [], map, string_bytes};
 ghost use Rattle.std.specs.Option.{option_map};
 ghost use Rattle.bench_top.specs.from_bench_tasks.Common.{bytes_carried};
 ghost use Rattle.front_words.specs.Saying.{Says};
-ghost use Rattle.front_top.specs.Words.{bad_words, carried_line, lost_words, refusal_words, run_words, stop_words};
+ghost use Rattle.front_top.specs.Words.{bad_words, carried_line, lost_words, refusal_words, run_words, stop_words, unread_words};
 
-use bench_top::bench_tasks::{FaultyFile, Stop};
+use bench_top::bench_tasks::{FaultyFile, Stop, UnreadFile};
 use bench_top::outside::Sink;
 use bench_top::{RunEnding, Status};
 use front_words::refusals::Refusal;
@@ -61,6 +61,13 @@ fn say_bad<E: Sink>(errors: &mut E, line: u32, kind: FaultKind, found: &FaultyFi
     say_bad_file(errors, PROGRAM, &bad)
 }
 
+// Says of a file that could not be read which it is, and why.
+fn say_unread_file<E: Sink>(errors: &mut E, unread: &UnreadFile<'_>) -> Said
+    ensures { Says E.written E.writes E.faults (unread_words unread.now) result errors.old errors.new }
+{
+    say_unread(errors, PROGRAM, unread.file.name, unread.reason)
+}
+
 // Says of a stop which file it is, and what is wrong with it.
 fn say_stop<E: Sink>(errors: &mut E, stop: &Option<Stop<'_>>) -> Said
     ensures { Says E.written E.writes E.faults (stop_words stop.now) result errors.old errors.new }
@@ -74,9 +81,7 @@ fn say_stop<E: Sink>(errors: &mut E, stop: &Option<Stop<'_>>) -> Said
                 ..
             },
         ) => say_bad(errors, *line, *kind, found),
-        Some(Stop::ReadFault { unread, .. }) => {
-            say_unread(errors, PROGRAM, unread.file.name, unread.reason)
-        }
+        Some(Stop::ReadFault { unread, .. }) => say_unread_file(errors, unread),
         Some(Stop::Memory) | None => say_nothing(errors),
     }
 }

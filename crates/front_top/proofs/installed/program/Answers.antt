@@ -12,7 +12,7 @@ returns-clause-ends g c = elim c.match-read.branch [
       (map string_bytes w.deref.result.now) w.in-Ok.read.asked.words c.is_quiet-quiet.result w.run_front-ending.result.is_abandoned w.run_front-ending.result.status w.run_front-ending.result.message
       c.new-shelf.result w.run_front-ending.new.shelf c.match-read.shelf c.new-sink.result w.run_front-ending.new.sink c.match-read.sink c.match-read.code
       (ap (map string_bytes) w.deref.ensures.value ∙ subst (λ r. IfOk r (λ read. map string_bytes read.words.items ≡ read.asked.words)) w.in-Ok.is c.read_arguments-read.ensures.all)
-      (ap (λ (s : OpenState). s.given) c.new-shelf.ensures) (ap (λ (k : PrintState). k.printed) c.new-sink.ensures) w.shelf-is w.sink-is (w.code-is ∙ w.code.ensures) w.run_front-ending.ensures.is_abandoned
-      (map string_bytes w.run_front-ending.result.words.now) c.new-errors.result w.say.new.errors c.match-read.errors (ap (map string_bytes) w.run_front-ending.ensures.words) c.new-errors.ensures w.errors-is w.say.ensures.says w.run_front-ending.ensures.fronts)
+      (ap (λ (s : OpenState). s.given) c.new-shelf.ensures) (ap (λ (k : PrintState). k.printed) c.new-sink.ensures) w.shelf-is w.sink-is (w.code-is ∙ w.said_code-code.ensures.code) w.run_front-ending.ensures.is_abandoned
+      (map string_bytes w.run_front-ending.result.words.now) c.new-errors.result w.said_code-code.new.errors c.match-read.errors (ap (map string_bytes) w.run_front-ending.ensures.words) c.new-errors.ensures w.errors-is w.said_code-code.ensures.says w.run_front-ending.ensures.fronts)
   | in-Err w ↦ grind arith
 ]
