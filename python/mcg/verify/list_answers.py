@@ -83,7 +83,7 @@ def select(
     """Checks what `select` yields of these graphs: the graphs themselves. As for `kinds`.
 
     >>> given = ["C~", "Bw", "A_"]
-    >>> select(given, ["C~"], "brick")
+    >>> select(given, given[:1], "brick")
     """
     left = iter(selected)
     for index, graph in enumerate(graphs):
