@@ -4,7 +4,7 @@ use Rattle.std.specs.Prelude.{ℕ, List, [], ◌∷◌, ◌++◌, nat_eq, Bool, 
 use Rattle.std.specs.List.{starts_with}
 use Rattle.command_table.specs.Rows.{Row}
 use Rattle.command_table.specs.declared.pages.TheConstants.{ANALYSE, CONVERT, ANALYSE6, DECOMPOSE, CHECK, CHECKEARS, EARS, COMPARE, SCRIPT, REPLAY, GROW}
-use Rattle.command_table.specs.declared.list_pages.TheConstants.{KINDS, LEAVES, ELEMENTARY, MATCHING, CUTS, LIST_EARS, GRAPH, SELECT, ENCODE}
+use Rattle.command_table.specs.declared.list_pages.TheConstants.{KINDS, LEAVES, ELEMENTARY, MATCHING, CUTS, EARS as LIST_EARS, GRAPH, SELECT, ENCODE}
 
 -- the line of a row, if that is the command
 abbrev pub command_line : (command : List ℕ) → Row → List ℕ

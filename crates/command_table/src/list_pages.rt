@@ -63,16 +63,16 @@ pub const CUTS: &str = "  cuts [skip] [FILE]           a line for each candidate
 The list has a graph in graph6 on each line, and is FILE or, without it, standard input.
 With skip, bad lines are left out and named at the end; the status is then 4.
 A line has the number of the graph's line, its graph6 text, barrier, separation or flow,
-and the shore of a nontrivial tight cut. The lines of a graph are in the order of the
-numbers in a file PICKS of mcg decompose. Each edge of each nontrivial tight cut is in
-the cut of some line, so bricks and braces have no line. Graphs that are not matching
+and the shore of a nontrivial tight cut. The lines of a graph are in the order in which
+a file of picks numbers them, from 0. Each edge of each nontrivial tight cut is in the
+cut of some line, so bricks and braces have no line. Graphs that are not matching
 covered have no lines.
 
 Example: mcg6 cuts examples/two_k4.g6
 ";
 
 /// The page of `ears`.
-pub const LIST_EARS: &str = "  ears [skip] [FILE]           a line for each graph: an ear decomposition
+pub const EARS: &str = "  ears [skip] [FILE]           a line for each graph: an ear decomposition
 
 The list has a graph in graph6 on each line, and is FILE or, without it, standard input.
 With skip, bad lines are left out and named at the end; the status is then 4.
@@ -129,7 +129,7 @@ pub fn list_page(command: &str) -> Option<&'static str>
         "elementary" => Some(ELEMENTARY),
         "matching" => Some(MATCHING),
         "cuts" => Some(CUTS),
-        "ears" => Some(LIST_EARS),
+        "ears" => Some(EARS),
         "graph" => Some(GRAPH),
         "select" => Some(SELECT),
         "encode" => Some(ENCODE),
