@@ -15,12 +15,7 @@ use tree_core::KnownPlace;
 /// The lines of the candidates of the graph that stands in the text of the line with this number,
 /// in their order; nothing if the graph is not matching covered. Costs what `Covered::of` and
 /// `candidates_at_place` of `tight_cuts` cost; the only error is `Memory`.
-pub fn cut_lines(
-    alloc: Global,
-    g: &MultiGraph,
-    number: u64,
-    text: &[u8],
-) -> Result<Vec<u8>, Memory>
+pub fn cut_lines(alloc: Global, g: &MultiGraph, number: u64, text: &[u8]) -> Result<Vec<u8>, Memory>
     requires { outcome_of text.now ≡ Ok g.now }
     ensures { IfOk result (λ lines. AreCutLines number g.now lines.items) }
 {

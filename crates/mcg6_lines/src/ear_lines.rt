@@ -17,12 +17,7 @@ use std::alloc::{AllocError as Memory, Global};
 /// The line of an ear list of the graph that stands in the text of the line with this number;
 /// nothing if the graph is not matching covered. Costs what `Covered::of` and `build_ears_of` of
 /// `ear_core` cost; the only error is `Memory`.
-pub fn ear_lines(
-    alloc: Global,
-    g: &MultiGraph,
-    number: u64,
-    text: &[u8],
-) -> Result<Vec<u8>, Memory>
+pub fn ear_lines(alloc: Global, g: &MultiGraph, number: u64, text: &[u8]) -> Result<Vec<u8>, Memory>
     requires { outcome_of text.now ≡ Ok g.now }
     ensures { IfOk result (λ lines. AreEarLines number g.now lines.items) }
 {

@@ -28,11 +28,7 @@ static ROWS: [(Query, &str, Answer); 14] = [
         "EhEG\n",
         Ok("7 EhEG flow 2 3 4\n7 EhEG flow 3 4 5\n7 EhEG flow 1 2 3\n"),
     ),
-    (
-        Query::Cuts,
-        "GFyAHK\n",
-        Ok("7 GFyAHK barrier 1 2 3 4 5\n"),
-    ),
+    (Query::Cuts, "GFyAHK\n", Ok("7 GFyAHK barrier 1 2 3 4 5\n")),
     (Query::Ears, "A_\n", Ok("7 A_ 0 0 1-2\n")),
     (Query::Ears, "Ch\n", Ok("")),
     (Query::Matching, "C~~", Err(FaultKind::Extra)),
