@@ -67,6 +67,7 @@ pub mod OpenParts
 pub mod OutcomesExist
 pub mod PartitionSides
 pub mod Partners
+pub mod PairingsRead
 pub mod PickedDerivations
 pub mod PlainDecompositions
 pub mod Pockets
