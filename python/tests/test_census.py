@@ -164,12 +164,12 @@ class Values(Folder):
         with open(f"{ROOT}/docs/COUNTS.md", encoding="utf-8") as file:
             section = file.read().split(f"\n## {heading}\n")[1].split("\n## ")[0]
         compared = 0
-        question = """SELECT COUNT(*), COUNT(*), SUM(deficiency = 0), COUNT(kind), COALESCE(SUM(bicritical), 0), SUM(kind IS 'brick'), SUM(kind IS 'brace'),
+        question = """SELECT COUNT(*), SUM(deficiency = 0), COUNT(kind), COALESCE(SUM(bicritical), 0), SUM(kind IS 'brick'), SUM(kind IS 'brace'),
             SUM(bricks IS 1), SUM(kind IS 'composite') FROM graphs WHERE list = ? AND vertices = ?"""
         for n in orders:
-            row = re.search(rf"^\| {n} \|(.*)\|[^|]*\|$", section, re.M)[1]
+            row = re.search(rf"^\| {n} \|(.*)\|$", section, re.M)[1]
             self.assertEqual(list(asked(self.file, question, number, n)[0]), [int(it.replace(",", "")) for it in row.split("|")], (heading, n))
-            compared += 9
+            compared += 8
         return compared
 
 
