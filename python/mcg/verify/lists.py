@@ -80,7 +80,7 @@ class Judged:
     for other words.
 
     >>> import io
-    >>> list(Judged(io.BytesIO(b"C~\nCh\n"), io.BytesIO(b"C~\n"), ["select", "brick"]))
+    >>> list(Judged(io.BytesIO(b"C~\\nCh\\n"), io.BytesIO(b"C~\\n"), ["select", "brick"]))
     []
     """
 
@@ -118,7 +118,7 @@ def list_report(source: IO[bytes], report: IO[bytes], words: Sequence[str]) -> i
     `BadText` for other words.
 
     >>> import io
-    >>> list_report(io.BytesIO(b"C~\n"), io.BytesIO(b"1 C~ C~ brick\n"), ["leaves"])
+    >>> list_report(io.BytesIO(b"C~\\n"), io.BytesIO(b"1 C~ C~ brick\\n"), ["leaves"])
     1
     """
     judged = Judged(source, report, words)
