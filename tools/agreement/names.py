@@ -12,24 +12,7 @@ import api
 import paths
 
 OTHERS = {"plain_graph", "engine_tests", "premise_tests", "text_tests", "run_tests", "mcg6_tests", "example_order"}
-STAY = {
-    "Command": "the renaming follows",
-    "Ended": "the renaming follows",
-    "Message": "the renaming follows",
-    "ProgramEnd": "the renaming follows",
-    "Reason": "the renaming follows",
-    "Refusal": "the renaming follows",
-    "brick_law": "the renaming follows",
-    "comments_law": "the renaming follows",
-    "first_refusal_law": "the renaming follows",
-    "one_output_law": "the renaming follows",
-    "said_law": "the renaming follows",
-    "uncrossing_law": "the renaming follows",
-    "uniqueness_law": "the renaming follows",
-    "brace_law braces_law": "the renaming follows",
-    "brick_law bricks_law": "the renaming follows",
-    "first_pair_law first_pairs_law": "the renaming follows",
-}
+STAY = {}
 LEAST_TYPES, LEAST_LAWS = 150, 150
 DECLARED = re.compile(r"^pub (?:fn|struct|enum|trait|type) (\w+)", re.MULTILINE)
 

@@ -1,10 +1,10 @@
 //! Reading the arguments.
 ghost use Rattle.std.specs.Prelude.{◌≡◌, ◌∷◌, ◌++◌, ◌+◌, [], IfErr, IfOk, IfSome, length, map, string_bytes};
 ghost use Rattle.std.specs.declared.option.Option.TheVariants.{None};
-ghost use Rattle.arguments.specs.declared.refusal.Refusal.TheVariants.{NotText};
+ghost use Rattle.arguments.specs.declared.refusal.ArgumentFault.TheVariants.{NotText};
 
 use crate::Asked;
-use crate::refusal::Refusal;
+use crate::refusal::ArgumentFault;
 use std::alloc::{AllocError as Memory, Global};
 use std::env::FillError;
 use std::rt::Env;
@@ -49,7 +49,7 @@ fn ask_at<E: Env>(
 }
 
 // The argument at that place, with these bytes, as a text.
-fn text_of(place: usize, bytes: Vec<u8>) -> Result<String, Refusal>
+fn text_of(place: usize, bytes: Vec<u8>) -> Result<String, ArgumentFault>
     ensures text { IfOk result (λ text. string_bytes text ≡ bytes.items) }
     ensures refusal { IfErr result (λ refusal. refusal ≡ NotText place bytes) }
 {
@@ -57,7 +57,7 @@ fn text_of(place: usize, bytes: Vec<u8>) -> Result<String, Refusal>
         Ok(text) => Ok(text),
         Err(error) => {
             let bytes = error.into_bytes();
-            Err(Refusal::NotText { place, bytes })
+            Err(ArgumentFault::NotText { place, bytes })
         }
     }
 }
@@ -74,7 +74,7 @@ pub struct Arguments {
 /// The arguments, without the name of the program: all that the runtime gave, from place 1 on, in
 /// order. That a call of the runtime gives the argument at the place that it is asked for is the
 /// runtime's to keep, and no clause says that the last one was asked for.
-pub fn read_arguments<E: Env>(env: &E, alloc: Global) -> Result<Arguments, Refusal>
+pub fn read_arguments<E: Env>(env: &E, alloc: Global) -> Result<Arguments, ArgumentFault>
     ensures all { IfOk result
         (λ read. map string_bytes read.words.items ≡ read.asked.words) }
 {
@@ -86,7 +86,7 @@ pub fn read_arguments<E: Env>(env: &E, alloc: Global) -> Result<Arguments, Refus
         };
         let word = text_of(place, bytes)?;
         if words.push(word).is_err() {
-            return Err(Refusal::Memory);
+            return Err(ArgumentFault::Memory);
         }
     }
     Ok(Arguments { words, asked })

@@ -1,5 +1,5 @@
 -- The exit statuses of the program.
--- Stated by: bench_outcomes. Used by: bench_top, front_top.
+-- Stated by: bench_outcomes, front_top. Used by: bench_top.
 use Rattle.std.specs.Prelude.{ℕ}
 use Rattle.bench_outcomes.specs.declared.status.Status.{Status}
 use Rattle.bench_outcomes.specs.declared.status.Status.TheVariants.{Done, Negative, Usage, ReadFault, BadInput, WriteFault, Memory}

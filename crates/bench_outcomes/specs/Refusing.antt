@@ -2,7 +2,7 @@
 -- Stated by: bench_reports, bench_top. Used by: bench_outcomes.
 use Rattle.std.specs.Prelude.{Option, Some, None, Result, Ok, Err}
 use Rattle.bench_tasks.specs.Common.{Command, task_of, Task, IsTaskOf}
-use Rattle.bench_tasks.specs.declared.stop.Stop.{Stop}
+use Rattle.bench_tasks.specs.declared.stop.LoadStop.{LoadStop}
 use Rattle.bench_tasks.specs.declared.tasks.Task.TheVariants as code
 use Rattle.bench_outcomes.specs.Conducts.{Conduct, Writes, Tells, Needs, Chooses, conduct_of}
 
@@ -23,6 +23,6 @@ MayRefuse None = ⊥
 MayRefuse (Some command) = (t : Task) × IsTaskOf command t × TaskMayRefuse t
 
 -- the same for what was loaded, if anything was
-abbrev pub GatheredMayRefuse : Result code.the_data Stop → Type 0
+abbrev pub GatheredMayRefuse : Result code.the_data LoadStop → Type 0
 GatheredMayRefuse (Ok loaded_task) = TaskMayRefuse (task_of loaded_task)
 GatheredMayRefuse (Err stop) = ⊥

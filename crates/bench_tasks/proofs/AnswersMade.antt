@@ -5,17 +5,17 @@ use Rattle.std.proofs.Common.{◌≡◌, ◌∙◌, ℕ, ◌+◌, ◌≤◌, ◌
 use Rattle.move_text.proofs.from_counting.Common.{take_all}
 use Rattle.outside.specs.Common.{Answer, AnswersInTurn, NamedFile, ReadsInTurn, file_named}
 use Rattle.bench_tasks.specs.Common.{CarriesBytes, CountsAs, FailedAs, LastFailed, failures_in, failures_of, StopsAs, GathersAnswered, GaveFile, HoldGiven, LoadsAnswered, ReadsOnce, by_place, place_name, Command, file_names, Loaded, and_then, loaded, loaded_as, task_of, ReadsAs, StopsAt, last_bytes}
-use Rattle.bench_tasks.specs.declared.stop.Stop.{Stop}
-use Rattle.bench_tasks.specs.declared.stop.Stop.TheVariants.{ReadFault, Bad, Memory}
+use Rattle.bench_tasks.specs.declared.stop.LoadStop.{LoadStop}
+use Rattle.bench_tasks.specs.declared.stop.LoadStop.TheVariants.{ReadFault, Bad, Memory}
 use Rattle.bench_tasks.specs.declared.tasks.Task.TheVariants as code
 
 -- a stop stays where more is made of what is loaded
-stops-then : {A B : Type 0} (stopped : Stop) (loaded : Loaded A) (next : A → Loaded B) → StopsAs stopped loaded → StopsAs stopped (and_then loaded next)
+stops-then : {A B : Type 0} (stopped : LoadStop) (loaded : Loaded A) (next : A → Loaded B) → StopsAs stopped loaded → StopsAs stopped (and_then loaded next)
 stops-then (ReadFault file unread) loaded next stops = tt
 stops-then (Bad file line kind found) loaded next stops = ap (λ (l : Loaded _). and_then l next) stops
 stops-then Memory loaded next stops = tt
 
-stops-made : {A B : Type 0} (stopped : Stop) (loaded : Loaded A) (make : A → B) → StopsAs stopped loaded → StopsAs stopped (loaded_as make loaded)
+stops-made : {A B : Type 0} (stopped : LoadStop) (loaded : Loaded A) (make : A → B) → StopsAs stopped loaded → StopsAs stopped (loaded_as make loaded)
 stops-made (ReadFault file unread) loaded make stops = tt
 stops-made (Bad file line kind found) loaded make stops = ap (loaded_as make) stops
 stops-made Memory loaded make stops = tt
@@ -51,11 +51,11 @@ module _ {S : Type 0} (reads : S → List ℕ → Answer → S → Type 0) where
   names-up_to names answers file first last positive counts in_turn = grind (arith, in_turn-names names answers first last in_turn)
 
   -- the reads of what was answered are those of all names, or of those up to the stop
-  reads-answered : {X A : Type 0} (names : List (List ℕ)) (view : X → A) (held : List NamedFile → Loaded A) (result : Result X Stop) (first last : S) → LoadsAnswered reads names view held result first last → ReadsAs reads names result first last
+  reads-answered : {X A : Type 0} (names : List (List ℕ)) (view : X → A) (held : List NamedFile → Loaded A) (result : Result X LoadStop) (first last : S) → LoadsAnswered reads names view held result first last → ReadsAs reads names result first last
   reads-answered names view held result first last made = grind (arith, names-up_to, take_all, in_turn-names)
 
 -- a command's answers are those of each command that is the same, and its files were read
-pub gathered-as : {S : Type 0} (reads : S → List ℕ → Answer → S → Type 0) (command other : Command) (result : Result code.the_data Stop) (first last : S) → command ≡ other → GathersAnswered reads command result first last →
+pub gathered-as : {S : Type 0} (reads : S → List ℕ → Answer → S → Type 0) (command other : Command) (result : Result code.the_data LoadStop) (first last : S) → command ≡ other → GathersAnswered reads command result first last →
     GathersAnswered reads other result first last × ReadsAs reads (file_names other) result first last
 gathered-as reads command other result first last is made =
     let answered = subst (λ (k : Command). GathersAnswered reads k result first last) is made in
@@ -68,12 +68,12 @@ hold-split files place [] answer given = grind arith
 hold-split files place (other ∷ answers) answer given = grind (arith, hold-split files (place + 1) answers answer given.1)
 
 -- a stop at the place after so many answers is counted by one answer more
-counts-at : (X : Type 0) (n m : ℕ) (stopped : Stop) → 0 < m → StopsAt m stopped → CountsAs {X = X} n m (Err stopped)
+counts-at : (X : Type 0) (n m : ℕ) (stopped : LoadStop) → 0 < m → StopsAt m stopped → CountsAs {X = X} n m (Err stopped)
 counts-at X n m (ReadFault file unread) positive at = (subst (λ (k : ℕ). 0 < k) (sym at) positive, sym at)
 counts-at X n m (Bad file line kind found) positive at = (subst (λ (k : ℕ). 0 < k) (sym at) positive, sym at)
 counts-at X n m Memory positive at = tt
 
-counts-stopped : (X Z : Type 0) (n m k : ℕ) (stopped : Stop) → CountsAs {X = X} n k (Err stopped) → CountsAs {X = Z} m k (Err stopped)
+counts-stopped : (X Z : Type 0) (n m k : ℕ) (stopped : LoadStop) → CountsAs {X = X} n k (Err stopped) → CountsAs {X = Z} m k (Err stopped)
 counts-stopped X Z n m k (ReadFault file unread) counts = counts
 counts-stopped X Z n m k (Bad file line kind found) counts = counts
 counts-stopped X Z n m k Memory counts = tt
@@ -93,12 +93,12 @@ none-failed : (answers : List Answer) (answer : Answer) → failures_of answers 
 none-failed answers answer none last = let both = failures-append answers (answer ∷ []) in omega (arith, both, none, last)
 
 -- a stop after reads that did not fail, and then one more
-failed-both : (X Z : Type 0) (answers : List Answer) (answer : Answer) (stopped : Stop) → failures_of answers ≡ 0 → FailedAs {X = X} (answer ∷ []) (Err stopped) → FailedAs {X = Z} (answers ++ answer ∷ []) (Err stopped)
+failed-both : (X Z : Type 0) (answers : List Answer) (answer : Answer) (stopped : LoadStop) → failures_of answers ≡ 0 → FailedAs {X = X} (answer ∷ []) (Err stopped) → FailedAs {X = Z} (answers ++ answer ∷ []) (Err stopped)
 failed-both X Z answers answer (ReadFault file unread) none failed = last-failed answers answer none failed
 failed-both X Z answers answer (Bad file line kind found) none failed = none-failed answers answer none failed
 failed-both X Z answers answer Memory none failed = none-failed answers answer none failed
 
-failed-stopped : (X Z : Type 0) (answers : List Answer) (stopped : Stop) → FailedAs {X = X} answers (Err stopped) → FailedAs {X = Z} answers (Err stopped)
+failed-stopped : (X Z : Type 0) (answers : List Answer) (stopped : LoadStop) → FailedAs {X = X} answers (Err stopped) → FailedAs {X = Z} answers (Err stopped)
 failed-stopped X Z answers (ReadFault file unread) failed = failed
 failed-stopped X Z answers (Bad file line kind found) failed = failed
 failed-stopped X Z answers Memory failed = failed
@@ -110,14 +110,14 @@ last-bytes (first ∷ []) answer = refl
 last-bytes (first ∷ next ∷ answers) answer = last-bytes (next ∷ answers) answer
 
 -- a stop carries the bytes of the last read, also after others
-carries-both : (answers : List Answer) (answer : Answer) (stopped : Stop) → CarriesBytes (answer ∷ []) stopped → CarriesBytes (answers ++ answer ∷ []) stopped
+carries-both : (answers : List Answer) (answer : Answer) (stopped : LoadStop) → CarriesBytes (answer ∷ []) stopped → CarriesBytes (answers ++ answer ∷ []) stopped
 carries-both answers answer (ReadFault file unread) carries = tt
 carries-both answers answer (Bad file line kind found) carries = carries ∙ sym (last-bytes answers answer)
 carries-both answers answer Memory carries = tt
 
 -- the first file
 pub answered-first :
-    {S X A : Type 0} (reads : S → List ℕ → Answer → S → Type 0) (name : List ℕ) (view : X → A) (held : List NamedFile → Loaded A) (result : Result X Stop) (first last : S) →
+    {S X A : Type 0} (reads : S → List ℕ → Answer → S → Type 0) (name : List ℕ) (view : X → A) (held : List NamedFile → Loaded A) (result : Result X LoadStop) (first last : S) →
     IfErr result (StopsAt 1) → ReadsOnce reads name 1 view held result first last → LoadsAnswered reads (name ∷ []) view held result first last
 answered-first {S} {X} reads name view held result first last stops once = record {
   answers = once.answer ∷ [];
@@ -128,21 +128,21 @@ answered-first {S} {X} reads name view held result first last stops once = recor
   loads = λ files given. once.loads files given.0;
 }
   where
-    go : (result : Result X Stop) → IfErr result (StopsAt 1) → CountsAs 1 1 result
+    go : (result : Result X LoadStop) → IfErr result (StopsAt 1) → CountsAs 1 1 result
     go result stops = grind arith
 
 -- what is made of what was loaded: of a value the one that it stands for, and of a stop the same
-abbrev pub IsMade : {X Z A C : Type 0} (view : X → A) (out : Z → C) (make : A → C) → Result X Stop → Result Z Stop → Type 0
+abbrev pub IsMade : {X Z A C : Type 0} (view : X → A) (out : Z → C) (make : A → C) → Result X LoadStop → Result Z LoadStop → Type 0
 IsMade view out make loaded made = MatchResult loaded (λ x. IsOkAnd made (λ z. out z ≡ make (view x))) (λ stopped. made ≡ Err stopped)
 
 module _ {S X Z A C : Type 0} (reads : S → List ℕ → Answer → S → Type 0) (names : List (List ℕ)) (view : X → A) (out : Z → C) (held : List NamedFile → Loaded A) where
   -- the first load stops
-  pub answered-stopped : (more : List (List ℕ)) (next : List NamedFile → A → Loaded C) (stopped : Stop) (first last : S) → LoadsAnswered reads names view held (Err stopped) first last →
+  pub answered-stopped : (more : List (List ℕ)) (next : List NamedFile → A → Loaded C) (stopped : LoadStop) (first last : S) → LoadsAnswered reads names view held (Err stopped) first last →
       LoadsAnswered reads (names ++ more) out (λ files. and_then (held files) (next files)) (Err stopped) first last
   answered-stopped more next stopped first last made = grind (arith, in_turn-more, counts-stopped, failed-stopped, stops-then)
 
   -- something is made of what is loaded, if it is
-  pub answered-mapped : (make : A → C) (loaded : Result X Stop) (made : Result Z Stop) (first last : S) → IsMade view out make loaded made →
+  pub answered-mapped : (make : A → C) (loaded : Result X LoadStop) (made : Result Z LoadStop) (first last : S) → IsMade view out make loaded made →
       LoadsAnswered reads names view held loaded first last → LoadsAnswered reads names out (λ files. loaded_as make (held files)) made first last
   answered-mapped make loaded made first last is one = grind arith
 
@@ -165,7 +165,7 @@ module _ {S X Z A C : Type 0} (reads : S → List ℕ → Answer → S → Type 
     made-then files given = ap (λ (l : Loaded A). and_then l (λ a. loaded_as (make a) (further files a))) (one.loads files given)
 
     -- the second load stops
-    pub answered-stopped-second : (stopped : Stop) → StopsAt (length names + 1) stopped → ReadsOnce reads name (length names + 1) second_view (λ files. further files (view x)) (Err stopped) mid last →
+    pub answered-stopped-second : (stopped : LoadStop) → StopsAt (length names + 1) stopped → ReadsOnce reads name (length names + 1) second_view (λ files. further files (view x)) (Err stopped) mid last →
         LoadsAnswered reads (names ++ name ∷ []) out (λ files. and_then (held files) (λ a. loaded_as (make a) (further files a))) (Err stopped) first last
     answered-stopped-second stopped at two = record {
       answers = one.answers ++ two.answer ∷ [];

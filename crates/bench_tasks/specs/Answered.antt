@@ -10,8 +10,8 @@ use Rattle.bench_tasks.specs.Carried.{CarriesBytes}
 use Rattle.bench_tasks.specs.Files.{file_names}
 use Rattle.bench_tasks.specs.Loading.{Loaded, loaded, most_bytes}
 use Rattle.bench_tasks.specs.Loads.{LoadsAs, task_of}
-use Rattle.bench_tasks.specs.declared.stop.Stop.{Stop}
-use Rattle.bench_tasks.specs.declared.stop.Stop.TheVariants as stop
+use Rattle.bench_tasks.specs.declared.stop.LoadStop.{LoadStop}
+use Rattle.bench_tasks.specs.declared.stop.LoadStop.TheVariants as stop
 use Rattle.bench_tasks.specs.declared.tasks.Task.TheVariants as code
 
 -- the name of the file at that place
@@ -47,7 +47,7 @@ HoldGiven files place [] = Unit {0}
 HoldGiven files place (answer ∷ answers) = GaveFile answer (file_named (place_name place) files) × HoldGiven files (place + 1) answers
 
 -- a value comes of answers for all names, and a stop at a file of the answers up to that file
-abbrev pub CountsAs : {X : Type 0} → (names answers : ℕ) → Result X Stop → Type 0
+abbrev pub CountsAs : {X : Type 0} → (names answers : ℕ) → Result X LoadStop → Type 0
 CountsAs names answers (Ok x) = answers ≡ names
 CountsAs names answers (Err (stop.ReadFault file unread)) = (0 < file) × (answers ≡ file)
 CountsAs names answers (Err (stop.Bad file line kind found)) = (0 < file) × (answers ≡ file)
@@ -73,7 +73,7 @@ LastFailed (answer ∷ next ∷ answers) = (failures_in answer ≡ 0) × LastFai
 
 -- a read failed exactly if a failed read is the stop, and then it was the last: a read that failed
 -- is neither a bad file nor want of memory
-abbrev pub FailedAs : {X : Type 0} → List Answer → Result X Stop → Type 0
+abbrev pub FailedAs : {X : Type 0} → List Answer → Result X LoadStop → Type 0
 FailedAs answers (Ok x) = failures_of answers ≡ 0
 FailedAs answers (Err (stop.ReadFault file unread)) = LastFailed answers
 FailedAs answers (Err (stop.Bad file line kind found)) = failures_of answers ≡ 0
@@ -82,7 +82,7 @@ FailedAs answers (Err stop.Memory) = failures_of answers ≡ 0
 -- one read, of that name, leads from the first shelf to the last, and what was loaded is what
 -- the file at this place holds, if it may be the one that the read gave; a bad file is carried with
 -- the bytes that the read returned
-pub record ReadsOnce {S X A : Type 0} (reads : S → List ℕ → Answer → S → Type 0) (name : List ℕ) (place : ℕ) (view : X → A) (held : List NamedFile → Loaded A) (result : Result X Stop) (first last : S) : Type 0 where
+pub record ReadsOnce {S X A : Type 0} (reads : S → List ℕ → Answer → S → Type 0) (name : List ℕ) (place : ℕ) (view : X → A) (held : List NamedFile → Loaded A) (result : Result X LoadStop) (first last : S) : Type 0 where
   pub answer : Answer
   pub read : reads first name answer last
   pub failed : FailedAs (answer ∷ []) result
@@ -92,7 +92,7 @@ pub record ReadsOnce {S X A : Type 0} (reads : S → List ℕ → Answer → S �
 -- reads of the first of these names, up to a stop, lead from the first shelf to the last, and
 -- what was loaded is what all files hold that may be those that the reads gave; a bad file is
 -- carried with the bytes that the last read returned
-pub record LoadsAnswered {S X A : Type 0} (reads : S → List ℕ → Answer → S → Type 0) (names : List (List ℕ)) (view : X → A) (held : List NamedFile → Loaded A) (result : Result X Stop) (first last : S) : Type 0 where
+pub record LoadsAnswered {S X A : Type 0} (reads : S → List ℕ → Answer → S → Type 0) (names : List (List ℕ)) (view : X → A) (held : List NamedFile → Loaded A) (result : Result X LoadStop) (first last : S) : Type 0 where
   pub answers : List Answer
   pub in_turn : AnswersInTurn reads names answers first last
   pub counts : CountsAs (length names) (length answers) result
@@ -101,5 +101,5 @@ pub record LoadsAnswered {S X A : Type 0} (reads : S → List ℕ → Answer →
   pub loads : (files : List NamedFile) → HoldGiven files 1 answers → LoadsAs view result (held files)
 
 -- the same of the files of a command
-abbrev pub GathersAnswered : {S : Type 0} → (S → List ℕ → Answer → S → Type 0) → Command → Result code.the_data Stop → S → S → Type 0
+abbrev pub GathersAnswered : {S : Type 0} → (S → List ℕ → Answer → S → Type 0) → Command → Result code.the_data LoadStop → S → S → Type 0
 GathersAnswered reads command result first last = LoadsAnswered reads (file_names command) task_of (λ files. loaded files (by_place command)) result first last

@@ -7,22 +7,22 @@ use Rattle.outside.specs.declared.explain.FailureReason.{FailureReason}
 use Rattle.bench_tasks.specs.Files.{File}
 use Rattle.bench_tasks.specs.FilesSeen.{file_seen}
 use Rattle.bench_tasks.specs.declared.stop.FaultyFile.{FaultyFile}
-use Rattle.bench_tasks.specs.declared.stop.Stop.{Stop}
-use Rattle.bench_tasks.specs.declared.stop.Stop.TheVariants as stop
+use Rattle.bench_tasks.specs.declared.stop.LoadStop.{LoadStop}
+use Rattle.bench_tasks.specs.declared.stop.LoadStop.TheVariants as stop
 
 -- the bytes that are carried, if any are
 abbrev pub bytes_carried : FaultyFile → Option (List ℕ)
 bytes_carried found = option_map (λ bytes. bytes.items) found.bytes
 
 -- the stop at this file, which is for a graph of these sizes, where the shelf gave this reason
-abbrev pub StopsOn : File → (sizes : Option (ℕ × ℕ)) → (reason : Option FailureReason) → Stop → Type 0
+abbrev pub StopsOn : File → (sizes : Option (ℕ × ℕ)) → (reason : Option FailureReason) → LoadStop → Type 0
 StopsOn file sizes reason (stop.ReadFault place unread) = (file_seen unread.file ≡ file) × (unread.reason ≡ reason)
 StopsOn file sizes reason (stop.Bad place line kind found) = (file_seen found.file ≡ file) × (found.sizes ≡ sizes)
 StopsOn file sizes reason stop.Memory = Unit {0}
 
 -- the stop carries the file at its place among these, and the reason that the shelf gave, if the
 -- file could not be read
-abbrev pub CarriesFile : List File → (reason : Option FailureReason) → Stop → Type 0
+abbrev pub CarriesFile : List File → (reason : Option FailureReason) → LoadStop → Type 0
 CarriesFile files reason (stop.ReadFault place unread) = (slice_get files (place - 1) ≡ Some (file_seen unread.file)) × (unread.reason ≡ reason)
 CarriesFile files reason (stop.Bad place line kind found) = slice_get files (place - 1) ≡ Some (file_seen found.file)
 CarriesFile files reason stop.Memory = Unit {0}
@@ -34,7 +34,7 @@ last_bytes (answer ∷ []) = bytes_in answer
 last_bytes (answer ∷ next ∷ answers) = last_bytes (next ∷ answers)
 
 -- a bad file is carried with the bytes that the last of these reads returned
-abbrev pub CarriesBytes : List Answer → Stop → Type 0
+abbrev pub CarriesBytes : List Answer → LoadStop → Type 0
 CarriesBytes answers (stop.ReadFault place unread) = Unit {0}
 CarriesBytes answers (stop.Bad place line kind found) = bytes_carried found ≡ last_bytes answers
 CarriesBytes answers stop.Memory = Unit {0}

@@ -11,8 +11,8 @@ use Rattle.bench_tasks.specs.Loading.{Loaded, All, Bad, on_tree, on_picks, on_ea
 use Rattle.bench_tasks.specs.Reads.{FailsAs, IsReadFault}
 use Rattle.bench_tasks.specs.Tasks.{Task}
 use Rattle.bench_tasks.specs.Tasks as task
-use Rattle.bench_tasks.specs.declared.stop.Stop.{Stop}
-use Rattle.bench_tasks.specs.declared.stop.Stop.TheVariants as stop
+use Rattle.bench_tasks.specs.declared.stop.LoadStop.{LoadStop}
+use Rattle.bench_tasks.specs.declared.stop.LoadStop.TheVariants as stop
 use Rattle.bench_tasks.specs.declared.tasks.SimpleGraph.{SimpleGraph}
 use Rattle.bench_tasks.specs.declared.tasks.GivenTree.{GivenTree}
 use Rattle.bench_tasks.specs.declared.tasks.GivenPicks.{GivenPicks}
@@ -61,13 +61,13 @@ task_of (code.OnTrees verb given) = on_trees verb (given_trees given)
 task_of (code.OnNumbers verb growth) = task.OnNumbers verb growth.seed growth.pieces
 
 -- a stop names the first bad file; nothing is said of a failed read or of lack of memory
-abbrev pub StopsAs : {A : Type 0} → Stop → Loaded A → Type 0
+abbrev pub StopsAs : {A : Type 0} → LoadStop → Loaded A → Type 0
 StopsAs (stop.Bad file line kind found) loaded = loaded ≡ Bad file line (kind_number kind)
 StopsAs (stop.ReadFault file unread) loaded = Unit {0}
 StopsAs stop.Memory loaded = Unit {0}
 
 -- what was loaded, seen by view, is what the files hold
-abbrev pub LoadsAs : {X A : Type 0} → (X → A) → Result X Stop → Loaded A → Type 0
+abbrev pub LoadsAs : {X A : Type 0} → (X → A) → Result X LoadStop → Loaded A → Type 0
 LoadsAs view (Ok x) loaded = loaded ≡ All (view x)
 LoadsAs view (Err stopped) loaded = StopsAs stopped loaded
 
@@ -75,7 +75,7 @@ LoadsAs view (Err stopped) loaded = StopsAs stopped loaded
 -- is steady stay as they were, the count of faults does not fall, and rose if a read failed;
 -- and if the files are known, the answer is what they hold, and over a steady shelf a
 -- read fails only at a file that is not held
-pub record Loads {S X A : Type 0} (told : S → Option (List NamedFile)) (steady : S → Bool) (faults : S → ℕ) (view : X → A) (held : List NamedFile → Loaded A) (result : Result X Stop) (before now : S) : Type 0 where
+pub record Loads {S X A : Type 0} (told : S → Option (List NamedFile)) (steady : S → Bool) (faults : S → ℕ) (view : X → A) (held : List NamedFile → Loaded A) (result : Result X LoadStop) (before now : S) : Type 0 where
   pub files : told now ≡ told before
   pub as_steady : steady now ≡ steady before
   pub later : faults before ≤ faults now

@@ -6,7 +6,7 @@ ghost use Rattle.bench_tasks.specs.Common.{CarriesFile, CarriesSizes, GaveSizes,
 
 use crate::formats::{GraphFile, PickFile};
 use crate::loading::{load, load_ears_for, load_first, load_moves_for, load_tree_for};
-use crate::stop::Stop;
+use crate::stop::LoadStop;
 use crate::tasks::{GivenEars, GivenMoves, GivenPicks, GivenTree, GivenTrees};
 use outside::{Reasons, Shelf};
 use refusals::FileKind;
@@ -19,7 +19,7 @@ pub fn load_tree<'a, R: Reasons<S>, S: Shelf>(
     tree_file: &'a str,
     reasons: &R,
     shelf: &mut S,
-) -> Result<GivenTree, Stop<'a>>
+) -> Result<GivenTree, LoadStop<'a>>
     ensures loads { Loads S.files S.steady S.faults given_tree
         (λ files. tree_given files graph_file.now tree_file.now)
         result shelf.old shelf.new }
@@ -50,7 +50,7 @@ pub fn load_picks<'a, R: Reasons<S>, S: Shelf>(
     picks_file: &'a str,
     reasons: &R,
     shelf: &mut S,
-) -> Result<GivenPicks, Stop<'a>>
+) -> Result<GivenPicks, LoadStop<'a>>
     ensures loads { Loads S.files S.steady S.faults given_picks
         (λ files. picks_given files graph_file.now picks_file.now)
         result shelf.old shelf.new }
@@ -79,7 +79,7 @@ pub fn load_ears<'a, R: Reasons<S>, S: Shelf>(
     ears_file: &'a str,
     reasons: &R,
     shelf: &mut S,
-) -> Result<GivenEars, Stop<'a>>
+) -> Result<GivenEars, LoadStop<'a>>
     ensures loads { Loads S.files S.steady S.faults given_ears
         (λ files. ears_given files graph_file.now ears_file.now)
         result shelf.old shelf.new }
@@ -109,7 +109,7 @@ pub fn load_moves<'a, R: Reasons<S>, S: Shelf>(
     moves_file: &'a str,
     reasons: &R,
     shelf: &mut S,
-) -> Result<GivenMoves, Stop<'a>>
+) -> Result<GivenMoves, LoadStop<'a>>
     ensures loads { Loads S.files S.steady S.faults given_moves
         (λ files. moves_given files graph_file.now tree_file.now moves_file.now)
         result shelf.old shelf.new }
@@ -144,7 +144,7 @@ pub fn load_trees<'a, R: Reasons<S>, S: Shelf>(
     second_file: &'a str,
     reasons: &R,
     shelf: &mut S,
-) -> Result<GivenTrees, Stop<'a>>
+) -> Result<GivenTrees, LoadStop<'a>>
     ensures loads { Loads S.files S.steady S.faults given_trees
         (λ files. trees_given files graph_file.now first_file.now second_file.now)
         result shelf.old shelf.new }

@@ -6,7 +6,7 @@ use crate::command::Command;
 use crate::file_sets::{load_ears, load_moves, load_picks, load_tree, load_trees};
 use crate::formats::{Graph6File, GraphFile};
 use crate::loading::load_first;
-use crate::stop::Stop;
+use crate::stop::LoadStop;
 use crate::tasks::Task;
 use outside::{Reasons, Shelf};
 use std::alloc::Global;
@@ -19,7 +19,7 @@ pub fn gather<'a, R: Reasons<S>, S: Shelf>(
     command: Command<'a>,
     reasons: &R,
     shelf: &mut S,
-) -> Result<Task, Stop<'a>>
+) -> Result<Task, LoadStop<'a>>
     ensures loads { Loads S.files S.steady S.faults task_of
         (λ files. loaded files (asked command.entry))
         result shelf.old shelf.new }

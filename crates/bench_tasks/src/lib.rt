@@ -2,7 +2,7 @@
 //!
 //! The words are a `Command`, a row of the table of words (`command_of`); what its files hold
 //! makes it a `Task` (`gather`), or it stops at the first file that cannot be read or is bad
-//! (`Stop`). Both are told apart by the files that are read, and commands that read the same
+//! (`LoadStop`). Both are told apart by the files that are read, and commands that read the same
 //! files by their verbs alone. Each kind of file has a `FileFormat`, and one function loads a
 //! file of any. Main definitions, in specs/: `command_of` of `Commands`, `files_of` of `Files`,
 //! `Task` of `Tasks`, and `loaded` of `Loading`, what the files of a command hold. Main promises:
@@ -28,7 +28,7 @@ pub use command::{Command, GrowNumbers};
 pub use decomposer;
 pub use files::CommandFile;
 pub use gathering::gather;
-pub use stop::{FaultyFile, Stop, UnreadFile};
+pub use stop::{FaultyFile, LoadStop, UnreadFile};
 pub use tasks::{GivenEars, GivenMoves, GivenPicks, GivenTree, GivenTrees, SimpleGraph, Task};
 pub use verbs::{
     EarsVerb, GraphVerb, MovesVerb, NumbersVerb, PicksVerb, SimpleGraphVerb, TreeVerb, TreesVerb,

@@ -11,7 +11,7 @@ ghost use Rattle.bench_tasks.specs.Common.{StopsOn, file_seen, LoadsAnswered, Re
 
 use crate::files::CommandFile;
 use crate::formats::{EarFile, FileFormat, MoveFile, TreeFile};
-use crate::stop::{FaultyFile, Stop, UnreadFile};
+use crate::stop::{FaultyFile, LoadStop, UnreadFile};
 use ear_text::ear_core::EarList;
 use graph_core::MultiGraph;
 use graph_core::line_text::{FaultKind, TextFault};
@@ -42,7 +42,7 @@ pub(crate) fn load<'a, R: Reasons<S>, S: Shelf, F: FileFormat>(
     place: u32,
     reasons: &R,
     shelf: &mut S,
-) -> Result<F::Value, Stop<'a>>
+) -> Result<F::Value, LoadStop<'a>>
     ensures loads { Loads S.files S.steady S.faults F.meaning
         (λ files. file_read place (F.reading format.now) (file_named name.now files))
         result shelf.old shelf.new }
@@ -60,34 +60,34 @@ pub(crate) fn load<'a, R: Reasons<S>, S: Shelf, F: FileFormat>(
             let kind = format.kind();
             let reason = reasons.reason(shelf);
             let file = CommandFile { name, kind };
-            return Err(Stop::ReadFault {
+            return Err(LoadStop::ReadFault {
                 file: place,
                 unread: UnreadFile { file, reason },
             });
         }
         Err(ShelfFault::TooLong) => {
             let found = faulty(format, name, None);
-            return Err(Stop::Bad {
+            return Err(LoadStop::Bad {
                 file: place,
                 line: 0,
                 kind: FaultKind::Limit,
                 found,
             });
         }
-        Err(ShelfFault::Memory) => return Err(Stop::Memory),
+        Err(ShelfFault::Memory) => return Err(LoadStop::Memory),
     };
     match format.read(alloc, &bytes) {
         Ok(value) => Ok(value),
         Err(TextFault::At { line, kind }) => {
             let found = faulty(format, name, Some(bytes));
-            Err(Stop::Bad {
+            Err(LoadStop::Bad {
                 file: place,
                 line,
                 kind,
                 found,
             })
         }
-        Err(TextFault::Memory) => Err(Stop::Memory),
+        Err(TextFault::Memory) => Err(LoadStop::Memory),
     }
 }
 
@@ -98,7 +98,7 @@ pub fn load_first<'a, R: Reasons<S>, S: Shelf, F: FileFormat>(
     name: &'a str,
     reasons: &R,
     shelf: &mut S,
-) -> Result<F::Value, Stop<'a>>
+) -> Result<F::Value, LoadStop<'a>>
     ensures loads { Loads S.files S.steady S.faults F.meaning
         (λ files. file_read 1 (F.reading format.now) (file_named name.now files))
         result shelf.old shelf.new }
@@ -121,7 +121,7 @@ pub(crate) fn load_tree_for<'a, R: Reasons<S>, S: Shelf>(
     place: u32,
     reasons: &R,
     shelf: &mut S,
-) -> Result<Tree, Stop<'a>>
+) -> Result<Tree, LoadStop<'a>>
     ensures loads { Loads S.files S.steady S.faults shape_of
         (λ files. tree_file files place name.now graph.now.order) result shelf.old shelf.new }
     ensures answered { ReadsOnce S.reads name.now place shape_of
@@ -143,7 +143,7 @@ pub(crate) fn load_ears_for<'a, R: Reasons<S>, S: Shelf>(
     name: &'a str,
     reasons: &R,
     shelf: &mut S,
-) -> Result<EarList, Stop<'a>>
+) -> Result<EarList, LoadStop<'a>>
     ensures loads { Loads S.files S.steady S.faults ears_of
         (λ files. ear_file files name.now graph.now) result shelf.old shelf.new }
     ensures answered { ReadsOnce S.reads name.now 2 ears_of
@@ -166,7 +166,7 @@ pub(crate) fn load_moves_for<'a, R: Reasons<S>, S: Shelf>(
     name: &'a str,
     reasons: &R,
     shelf: &mut S,
-) -> Result<Moves, Stop<'a>>
+) -> Result<Moves, LoadStop<'a>>
     ensures loads { Loads S.files S.steady S.faults moves_of
         (λ files. move_file files name.now graph.now.order) result shelf.old shelf.new }
     ensures answered { ReadsOnce S.reads name.now 3 moves_of

@@ -26,7 +26,7 @@ pub struct FaultyFile<'a> {
 
 /// Why the files of a command were not loaded.
 #[derive(Debug, Drop)]
-pub enum Stop<'a> {
+pub enum LoadStop<'a> {
     /// A file could not be read: its place among the named files, and what is known of it.
     ReadFault {
         file: u32,

@@ -4,8 +4,8 @@ use Rattle.move_text.proofs.from_counting.Common.{◌≡◌, ◌<◌, ℕ, ◌+�
 use Rattle.outside.specs.Common.{Answer, NamedFile, file_named, most_bytes}
 use Rattle.outside.specs.declared.shelf.ShelfFault.TheVariants.{Failed, TooLong, Memory}
 use Rattle.bench_reports.specs.from_bench_tasks.Common.{FailedAs, GathersAnswered, HoldGiven, IsReadFault, failures_of, by_place, place_name, Command, loaded, Held, LoadsAs, task_of}
-use Rattle.bench_reports.specs.from_bench_tasks.declared.stop.Stop.{Stop}
-use Rattle.bench_reports.specs.from_bench_tasks.declared.stop.Stop.TheVariants as stop
+use Rattle.bench_reports.specs.from_bench_tasks.declared.stop.LoadStop.{LoadStop}
+use Rattle.bench_reports.specs.from_bench_tasks.declared.stop.LoadStop.TheVariants as stop
 use Rattle.bench_reports.specs.from_bench_tasks.declared.tasks.Task.TheVariants as code
 use Rattle.bench_reports.specs.from_bench_outcomes.Common.{LoadedGives}
 use Rattle.bench_reports.specs.from_bench_outcomes.declared.status.Status.{Status}
@@ -65,7 +65,7 @@ none-failed-with ended.WriteFault answers not none = none
 none-failed-with ended.Memory answers not none = none
 
 -- a read failed exactly at that status
-failed-with : (status : Status) (result : Result code.the_data Stop) (answers : List Answer) →
+failed-with : (status : Status) (result : Result code.the_data LoadStop) (answers : List Answer) →
     (status ≡ ended.ReadFault → IsReadFault result) → (IsReadFault result → status ≡ ended.ReadFault) → FailedAs answers result → FailedWith status answers
 failed-with status (Ok task) answers to from failed = none-failed-with status answers (λ e. to e) failed
 failed-with status (Err (stop.ReadFault file unread)) answers to from failed = subst (λ (s : Status). FailedWith s answers) (sym (from tt)) failed
@@ -75,7 +75,7 @@ failed-with status (Err stop.Memory) answers to from failed = none-failed-with s
 -- a run whose writes are those of an outcome of whatever was loaded
 pub given-outcome :
     {S K : Type 0} (reads : S → List ℕ → Answer → S → Type 0) (written : K → Option (List ℕ)) (writes : K → List ℕ → ℕ → K → Type 0) (command : Command)
-    (result : Result code.the_data Stop) (status : Status) (first last : S) (before now : K) →
+    (result : Result code.the_data LoadStop) (status : Status) (first last : S) (before now : K) →
     (status ≡ ended.ReadFault → IsReadFault result) → (IsReadFault result → status ≡ ended.ReadFault) →
     GathersAnswered reads command result first last → ((held : Held) → LoadsAs task_of result held → WritesAs written writes (LoadedGives held) status before now) →
     GivenOutcome reads written writes (Some command) status first last before now

@@ -6,7 +6,7 @@ use Rattle.outside.specs.Common.{Answer, NamedFile, ReadsInTurn, Rose}
 use Rattle.outside.specs.declared.explain.FailureReason.{FailureReason}
 use Rattle.refusals.specs.declared.refusal.Refusal.{Refusal}
 use Rattle.bench_reports.specs.from_bench_tasks.Common.{Absent, All, Bad, CarriesFile, CarriesFirstSizes, Command, FailsAs, GathersAnswered, Held, HasNoMissing, IsReadFault, IsTaskOf, Loaded, Loads, LoadsAs, ReadsAs, Task, file_names, files_of, loaded, names_until, task_of}
-use Rattle.bench_reports.specs.from_bench_tasks.declared.stop.Stop.{Stop}
+use Rattle.bench_reports.specs.from_bench_tasks.declared.stop.LoadStop.{LoadStop}
 use Rattle.bench_reports.specs.from_bench_tasks.declared.tasks.Task.TheVariants as code
 use Rattle.bench_reports.specs.from_bench_outcomes.Common.{Appended, CutShort, GatheredMayRefuse, IsPlaced, IsReported, IsSettled, LoadedGives, is_negative}
 use Rattle.bench_reports.specs.from_bench_outcomes.declared.status.Status.{Status}
@@ -24,7 +24,7 @@ use Rattle.bench_top.proofs.Stops.{stop-carries, stop-carries-bytes, stop-carrie
 use Rattle.bench_top.proofs.WritesMade.{writes-more, wrote-appended, wrote-none, wrote-prefix}
 
 -- what was gathered gives this status and this output, whatever files it was read from
-abbrev pub GivesGathered : Result code.the_data Stop → Status → List ℕ → Type 0
+abbrev pub GivesGathered : Result code.the_data LoadStop → Status → List ℕ → Type 0
 GivesGathered gathered status output = (held : Held) → LoadsAs task_of gathered held → LoadedGives held status output
 
 not-absent : (held : Loaded Task) (task : Task) → held ≡ All task → (file : ℕ) → held ≡ Absent file → ⊥
@@ -34,7 +34,7 @@ bad-not-absent : (held : Loaded Task) (at line kind : ℕ) → held ≡ Bad at l
 bad-not-absent held at line kind is file absent = grind arith
 
 module _ {S K : Type 0} (holds : S → Option (List NamedFile)) (is_steady : S → Bool) (faults : S → ℕ) (reads : S → List ℕ → Answer → S → Type 0) (reason : S → Option FailureReason)
-    (written : K → Option (List ℕ)) (writes : K → List ℕ → ℕ → K → Type 0) (sink_faults : K → ℕ) (k : Command) (gathered : Result code.the_data Stop) (first last : S) (before now : K) where
+    (written : K → Option (List ℕ)) (writes : K → List ℕ → ℕ → K → Type 0) (sink_faults : K → ℕ) (k : Command) (gathered : Result code.the_data LoadStop) (first last : S) (before now : K) where
   -- the files of the command were read, and this was gathered
   pub record HasGathered : Type 0 where
     pub loads : Loads holds is_steady faults task_of (λ files. loaded files k) gathered first last

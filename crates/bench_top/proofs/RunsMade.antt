@@ -11,7 +11,7 @@ use Rattle.bench_reports.specs.from_bench_outcomes.declared.status.Status.{Statu
 use Rattle.bench_reports.specs.from_bench_outcomes.declared.status.Status.TheVariants.{Done, Negative, Usage, ReadFault, BadInput, WriteFault, Memory}
 use Rattle.bench_top.specs.Calm.{IsCalm}
 use Rattle.bench_top.specs.Runs.{RunsTo}
-use Rattle.bench_reports.specs.from_bench_tasks.declared.stop.Stop.{Stop}
+use Rattle.bench_reports.specs.from_bench_tasks.declared.stop.LoadStop.{LoadStop}
 use Rattle.bench_top.specs.Endings.{IsStopOf, ReportedBad}
 
 -- nothing is an outcome of a file that is not held
@@ -48,10 +48,10 @@ ends-bad file line kind WriteFault before now usage read write reported = absurd
 ends-bad file line kind Memory before now usage read write reported = inr refl
 
 -- good files are reported on: a stop at a bad file is not what they hold
-not-bad : (steady : Bool) (task : Task) (stopped : Option Stop) (before now : Option (List ℕ)) → IsStopOf steady stopped (All task) → ReportedBad stopped before now → ⊥
+not-bad : (steady : Bool) (task : Task) (stopped : Option LoadStop) (before now : Option (List ℕ)) → IsStopOf steady stopped (All task) → ReportedBad stopped before now → ⊥
 not-bad steady task stopped before now stops reported = grind arith
 
-pub ends-good : (steady : Bool) (task : Task) (status : Status) (stopped : Option Stop) (before now : Option (List ℕ)) → (status ≡ Usage → ⊥) → (status ≡ ReadFault → ⊥) → (status ≡ WriteFault → ⊥) →
+pub ends-good : (steady : Bool) (task : Task) (status : Status) (stopped : Option LoadStop) (before now : Option (List ℕ)) → (status ≡ Usage → ⊥) → (status ≡ ReadFault → ⊥) → (status ≡ WriteFault → ⊥) →
     IsStopOf steady stopped (All task) → (status ≡ BadInput → ReportedBad stopped before now) → IsSettled status ⊎ (status ≡ Memory)
 ends-good steady task Done stopped before now usage read write stops bad = inl (inl refl)
 ends-good steady task Negative stopped before now usage read write stops bad = inl (inr refl)

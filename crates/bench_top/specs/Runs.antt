@@ -4,7 +4,7 @@ use Rattle.std.specs.Prelude.{◌≡◌, ◌⊎◌, ◌↔◌, ℕ, List, Bool, 
 use Rattle.outside.specs.declared.explain.FailureReason.{FailureReason}
 use Rattle.outside.specs.Common.{Rose, Answer, NamedFile, ReadsFirst, ReadsInTurn}
 use Rattle.bench_reports.specs.from_bench_tasks.Common.{Command, Task, All, Bad, Absent, loaded, file_names, files_in, names_in, names_until}
-use Rattle.bench_reports.specs.from_bench_tasks.declared.stop.Stop.{Stop}
+use Rattle.bench_reports.specs.from_bench_tasks.declared.stop.LoadStop.{LoadStop}
 use Rattle.refusals.specs.declared.refusal.Refusal.{Refusal}
 use Rattle.bench_reports.specs.from_bench_outcomes.Common.{CommandGives, MayRefuse, Appended, CutShort, IsPlaced, IsReported, IsSettled, Succeeds, is_negative}
 use Rattle.bench_reports.specs.from_bench_outcomes.declared.status.Status.{Status}
@@ -74,7 +74,7 @@ pub record Runs {S K : Type 0} (holds : S → Option (List NamedFile)) (is_stead
 -- the same, and this stopped the run, if it was stopped, and this is why its input was refused, if
 -- it was refused
 pub record RunsTo {S K : Type 0} (holds : S → Option (List NamedFile)) (is_steady : S → Bool) (faults : S → ℕ) (reads : S → List ℕ → Answer → S → Type 0) (reason : S → Option FailureReason)
-    (written : K → Option (List ℕ)) (writes : K → List ℕ → ℕ → K → Type 0) (sink_faults : K → ℕ) (row : Option Command) (ended : Status) (stopped : Option Stop) (refused : Option Refusal)
+    (written : K → Option (List ℕ)) (writes : K → List ℕ → ℕ → K → Type 0) (sink_faults : K → ℕ) (row : Option Command) (ended : Status) (stopped : Option LoadStop) (refused : Option Refusal)
     (first last : S) (before now : K) : Type 0 where
   pub runs : Runs holds is_steady faults reads written writes sink_faults row ended first last before now
   -- the stop is what the files hold, if they are known

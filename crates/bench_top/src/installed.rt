@@ -3,16 +3,16 @@ ghost use Rattle.std.specs.Prelude.{◌≡◌, [], IfErr, IfOk};
 ghost use Rattle.bench_top.specs.Installed.{EndsOn};
 
 use crate::running::run;
-use arguments::{Arguments, Refusal, read_arguments};
+use arguments::{ArgumentFault, Arguments, read_arguments};
 use outside::{DirShelf, OutSink};
 use std::alloc::Global;
 use std::rt::{Env, Files};
 
 /// How the program ended, with what the runtime gave and what it took.
 #[derive(Drop)]
-pub struct Ended<'a, R: Files + Print> {
+pub struct EndedRun<'a, R: Files + Print> {
     /// The words of the command line, with what the runtime gave, or why they were not read.
-    pub read: Result<Arguments, Refusal>,
+    pub read: Result<Arguments, ArgumentFault>,
     /// The exit status.
     pub code: u8,
     /// The shelf after the run, with the files that were given.
@@ -26,7 +26,7 @@ pub struct Ended<'a, R: Files + Print> {
 ///
 /// What it was given and what it printed are values of the result, the words that the runtime gave
 /// among them.
-pub fn program<R: Files + Print + Env>(runtime: &R, alloc: Global) -> Ended<'_, R>
+pub fn program<R: Files + Print + Env>(runtime: &R, alloc: Global) -> EndedRun<'_, R>
     ensures ends { IfOk result.read
         (λ read. EndsOn read.asked.words result.code result.shelf result.sink) }
     ensures given { IfErr result.read (λ _. result.shelf.given ≡ []) }
@@ -39,7 +39,7 @@ pub fn program<R: Files + Print + Env>(runtime: &R, alloc: Global) -> Ended<'_, 
         Ok(read) => run(alloc, &read.words, &mut shelf, &mut sink).code(),
         Err(refusal) => refusal.code(),
     };
-    Ended {
+    EndedRun {
         read,
         code,
         shelf,

@@ -28,6 +28,6 @@ pub use bench_reports::bench_outcomes::Status;
 pub use bench_reports::bench_tasks;
 pub use ending::RunEnding;
 pub use in_memory::run_in_memory;
-pub use installed::{Ended, program};
+pub use installed::{EndedRun, program};
 pub use outside;
 pub use running::{run, run_ending};

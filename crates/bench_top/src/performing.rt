@@ -7,7 +7,7 @@ ghost use Rattle.bench_top.specs.Runs.{RunsTo};
 
 use crate::ending::RunEnding;
 use bench_reports::bench_outcomes::{Report, Status};
-use bench_reports::bench_tasks::{Command, Stop, Task, gather};
+use bench_reports::bench_tasks::{Command, LoadStop, Task, gather};
 use bench_reports::judge;
 use mcg6_lines::report_text::bad_input;
 use outside::{Reasons, Shelf, Sink, SinkFailed, emit};
@@ -18,11 +18,11 @@ use std::alloc::Global;
 #[derive(Drop)]
 struct Judged<'a> {
     report: Result<Report, Status>,
-    stop: Option<Stop<'a>>,
+    stop: Option<LoadStop<'a>>,
 }
 
 // The report on a stop, or the status where there is none.
-fn report_on_stop(alloc: Global, stop: &Stop<'_>) -> Result<Report, Status>
+fn report_on_stop(alloc: Global, stop: &LoadStop<'_>) -> Result<Report, Status>
     ensures gives { IfOk result
         (λ report. (held : Held) → StopsAs stop.now held →
         LoadedGives held report.status report.bytes.items) }
@@ -34,9 +34,9 @@ fn report_on_stop(alloc: Global, stop: &Stop<'_>) -> Result<Report, Status>
         (λ status. (status ≡ Status.ReadFault) ⊎ (status ≡ Status.Memory)) }
 {
     match stop {
-        Stop::ReadFault { .. } => Err(Status::ReadFault),
-        Stop::Memory => Err(Status::Memory),
-        Stop::Bad {
+        LoadStop::ReadFault { .. } => Err(Status::ReadFault),
+        LoadStop::Memory => Err(Status::Memory),
+        LoadStop::Bad {
             file,
             line,
             kind,
@@ -53,7 +53,7 @@ fn report_on_stop(alloc: Global, stop: &Stop<'_>) -> Result<Report, Status>
 }
 
 // The report on what was gathered.
-fn report_on<'a>(alloc: Global, gathered: Result<Task, Stop<'a>>) -> Judged<'a>
+fn report_on<'a>(alloc: Global, gathered: Result<Task, LoadStop<'a>>) -> Judged<'a>
     ensures stop { result.stop ≡ stop_in gathered.entry }
     ensures gives { IfOk result.report
         (λ report. (held : Held) → LoadsAs task_of gathered.entry held →

@@ -23,6 +23,6 @@ mod table;
 pub use laws::pages_law;
 pub use list_pages::list_page;
 pub use pages::page;
-pub use reasons::{Reason, why_unmatched};
+pub use reasons::{Mismatch, why_unmatched};
 pub use rows::{Row, RowWord};
 pub use table::{all_list_rows, all_rows, list_usage, usage};

@@ -1,6 +1,6 @@
 -- Sets as increasing lists of numbers, and lists of pairs in lexicographic order.
 -- Stated by: counting, vset_core, graph_core, grow_gen, match_search, match_core and 24 more.
--- Used by: decomposer, report_text, bench_outcomes, bench_reports, bench_top.
+-- Used by: decomposer, report_text, bench_outcomes, bench_reports.
 use Rattle.std.specs.Prelude.{◌≡◌, ◌⊎◌, ℕ, zero, suc, ◌+◌, ◌-◌, ◌<◌, Bool, true, false, List, [], ◌∷◌, ◌++◌, ◌==◌, ◌&&◌, ◌||◌, cond, map, flat_map, slice_index_or, nat_lt, All}
 use Rattle.std.specs.List.Sorted.{IsStrictlyIncreasing}
 use Rattle.counting.specs.Counts.{Within, bit}

@@ -34,7 +34,7 @@ pub fn canonical_partition_law()
 
 /// The pairs that `equivalent_pair` and `cut_pair` return are lexicographically first: the first a
 /// < b such that G - a - b has no perfect matching, and the first such that G - a - b has at least
-/// two components. That each returns a pair if and only if there is one is `first_pairs_law` of
+/// two components. That each returns a pair if and only if there is one is `missing_pairs_law` of
 /// `separation_kit`.
 pub fn first_pair_law()
     ensures equivalent { (g : Graph) (k : ℕ × ℕ) → equivalent_pair g ≡ Some k →

@@ -36,7 +36,7 @@ pub fn new_stage_law()
 
 /// Steps that lead from a stage to all edges have no refusal, and others have one first refusal
 /// at most.
-pub fn first_refusal_law()
+pub fn first_ear_refusal_law()
     ensures none { (g : Graph) (f : Set) (k : ℕ) (steps : List PlainStep) (number : ℕ)
         (why : PlainWhy)
         → IsFirstRefusal g f k steps number why → AreSteps g f steps → ⊥ }

@@ -9,7 +9,7 @@
 //! shows first. `build_ears` makes an ear list of each matching covered graph, which adds two ears
 //! only where no ear list continues with one (`TakesSingles`) and cannot be refined
 //! (`IsUnrefinable`). `laws` says what the tests of a step mean, and when a single ear can follow;
-//! by its `first_refusal_law` an ear list has no refusal, and any other list at most one. Both
+//! by its `first_ear_refusal_law` an ear list has no refusal, and any other list at most one. Both
 //! calls keep the partners of vertices on a stage (`Stage`), and by the two-ear theorem two ears
 //! are enough. Depends on `match_core`, `allowed_edges`, `graph_facts`, `refusals` and `two_ears`.
 //! Source: Lovász and Plummer, "Matching Theory", chapter 5.

@@ -11,8 +11,8 @@ use crate::ears_read::{EarsRead, close_last, pair_last};
 use ear_core::{Ear, EarList, Steps};
 use graph_core::Numbers;
 use graph_core::line_text::{
-    FaultKind, LineFormat, Refusal, TextFault, has_form, has_out_of_range, is_out_of_range, number,
-    numbers, read_text, word,
+    FaultKind, LineFormat, RuleFault, TextFault, has_form, has_out_of_range, is_out_of_range,
+    number, numbers, read_text, word,
 };
 use std::alloc::{AllocError as Memory, Global};
 
@@ -24,33 +24,33 @@ struct EarFormat {
     size: u32,
 }
 
-fn read_header(n: u32, m: u32, words: &[&[u8]]) -> Result<EarsRead, Refusal<FaultKind>>
+fn read_header(n: u32, m: u32, words: &[&[u8]]) -> Result<EarsRead, RuleFault<FaultKind>>
     ensures { Gives ears_so_far result (ears_header n m (texts_of words.now)) }
 {
     if !has_form(words, 4, &["r", "mcg"]) {
-        return Err(Refusal::Fault(FaultKind::Header));
+        return Err(RuleFault::Fault(FaultKind::Header));
     }
     let (Some(order), Some(size)) = (number(word(words, 2)), number(word(words, 3))) else {
-        return Err(Refusal::Fault(FaultKind::Number));
+        return Err(RuleFault::Fault(FaultKind::Number));
     };
     if order != n || size != m {
-        return Err(Refusal::Fault(FaultKind::Header));
+        return Err(RuleFault::Fault(FaultKind::Header));
     }
     Ok(EarsRead::Headed)
 }
 
 // The line of the first stage.
-fn read_start(alloc: Global, m: u32, words: &[&[u8]]) -> Result<EarsRead, Refusal<FaultKind>>
+fn read_start(alloc: Global, m: u32, words: &[&[u8]]) -> Result<EarsRead, RuleFault<FaultKind>>
     ensures { Gives ears_so_far result (start_line m (texts_of words.now)) }
 {
     if !has_form(words, 2, &["start"]) {
-        return Err(Refusal::Fault(FaultKind::Word));
+        return Err(RuleFault::Fault(FaultKind::Word));
     }
     let Some(start) = number(word(words, 1)) else {
-        return Err(Refusal::Fault(FaultKind::Number));
+        return Err(RuleFault::Fault(FaultKind::Number));
     };
     if is_out_of_range(m, start) {
-        return Err(Refusal::Fault(FaultKind::Range));
+        return Err(RuleFault::Fault(FaultKind::Range));
     }
     Ok(EarsRead::Started {
         start,
@@ -102,17 +102,17 @@ fn is_either_ear(stands_apart: bool, words: &[&[u8]]) -> bool
 }
 
 // The ear that a line gives after its first word.
-fn ear_told(format: &EarFormat, words: &[&[u8]]) -> Result<Ear, Refusal<FaultKind>>
+fn ear_told(format: &EarFormat, words: &[&[u8]]) -> Result<Ear, RuleFault<FaultKind>>
     ensures ear { IfOk result (λ ear. ear_of ear ≡ ear_at (texts_of words.now)) }
     ensures tests { (so_far : EarsSoFar) → Gives (λ _. so_far) result
         (checked (ear_tests format.now.order format.now.size (texts_of words.now)) so_far) }
 {
     let read = numbers(format.alloc, behind_two(words))?;
     let (Some(from), Some(edges)) = (number(word(words, 1)), read) else {
-        return Err(Refusal::Fault(FaultKind::Number));
+        return Err(RuleFault::Fault(FaultKind::Number));
     };
     if is_out_of_range(format.order, from) || has_out_of_range(format.size, &edges) {
-        return Err(Refusal::Fault(FaultKind::Range));
+        return Err(RuleFault::Fault(FaultKind::Range));
     }
     let edges = copied(format.alloc, &edges)?;
     Ok(Ear { from, edges })
@@ -150,13 +150,13 @@ fn read_ear(
     steps: Steps,
     last: Option<Ear>,
     words: &[&[u8]],
-) -> Result<EarsRead, Refusal<FaultKind>>
+) -> Result<EarsRead, RuleFault<FaultKind>>
     ensures { Gives ears_so_far result
         (ear_line format.now.order format.now.size start (map step_of steps)
         (option_map ear_of last) (texts_of words.now)) }
 {
     if !is_either_ear(last.is_some(), words) {
-        return Err(Refusal::Fault(FaultKind::Word));
+        return Err(RuleFault::Fault(FaultKind::Word));
     }
     let ear = match ear_told(format, words) {
         Ok(ear) => ear,
@@ -183,20 +183,20 @@ impl LineFormat for EarFormat {
 
     ghost rules = { λ format. ear_format format.order format.size };
 
-    fn header(&self, words: &[&[u8]]) -> Result<EarsRead, Refusal<FaultKind>> {
+    fn header(&self, words: &[&[u8]]) -> Result<EarsRead, RuleFault<FaultKind>> {
         read_header(self.order, self.size, words)
     }
 
-    fn line(&self, body: EarsRead, words: &[&[u8]]) -> Result<EarsRead, Refusal<FaultKind>> {
+    fn line(&self, body: EarsRead, words: &[&[u8]]) -> Result<EarsRead, RuleFault<FaultKind>> {
         match body {
             EarsRead::Headed => read_start(self.alloc, self.size, words),
             EarsRead::Started { start, steps, last } => read_ear(self, start, steps, last, words),
         }
     }
 
-    fn close(&self, body: EarsRead) -> Result<EarList, Refusal<FaultKind>> {
+    fn close(&self, body: EarsRead) -> Result<EarList, RuleFault<FaultKind>> {
         match body {
-            EarsRead::Headed => Err(Refusal::Fault(FaultKind::Missing)),
+            EarsRead::Headed => Err(RuleFault::Fault(FaultKind::Missing)),
             EarsRead::Started { start, steps, last } => {
                 let steps = close_last(steps, last)?;
                 Ok(EarList { start, steps })

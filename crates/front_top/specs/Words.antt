@@ -5,8 +5,8 @@ use Rattle.line_text.specs.declared.faults.FaultKind.{FaultKind}
 use Rattle.bench_top.specs.from_bench_tasks.Common.{bytes_carried}
 use Rattle.bench_top.specs.from_bench_tasks.declared.stop.FaultyFile.{FaultyFile}
 use Rattle.bench_top.specs.from_bench_tasks.declared.stop.UnreadFile.{UnreadFile}
-use Rattle.bench_top.specs.from_bench_tasks.declared.stop.Stop.{Stop}
-use Rattle.bench_top.specs.from_bench_tasks.declared.stop.Stop.TheVariants as stop
+use Rattle.bench_top.specs.from_bench_tasks.declared.stop.LoadStop.{LoadStop}
+use Rattle.bench_top.specs.from_bench_tasks.declared.stop.LoadStop.TheVariants as stop
 use Rattle.front_words.specs.from_refusals.declared.refusal.Refusal.{Refusal}
 use Rattle.bench_top.specs.from_bench_outcomes.declared.status.Status.{Status}
 use Rattle.bench_top.specs.from_bench_outcomes.declared.status.Status.TheVariants.{Done, Negative, Usage, ReadFault, BadInput, WriteFault, Memory}
@@ -45,7 +45,7 @@ abbrev pub unread_words : UnreadFile → List ℕ
 unread_words unread = unread_text program unread.file.name.now unread.reason
 
 -- of a stop: of a bad file, or of one that could not be read, with the reason
-abbrev pub stop_words : Option Stop → List ℕ
+abbrev pub stop_words : Option LoadStop → List ℕ
 stop_words None = []
 stop_words (Some (stop.Bad file line kind found)) = bad_words line kind found
 stop_words (Some (stop.ReadFault file unread)) = unread_words unread
@@ -62,7 +62,7 @@ lost_words = codes "mcg: the output could not be written whole\n"
 
 -- what is said of a run of these words that ended with this status, this stop and this refusal;
 -- nothing if it is done, and nothing if nobody reads the output any more
-abbrev pub run_words : (words : List (List ℕ)) → Status → Option Stop → Option Refusal → (is_abandoned : Bool) → List ℕ
+abbrev pub run_words : (words : List (List ℕ)) → Status → Option LoadStop → Option Refusal → (is_abandoned : Bool) → List ℕ
 run_words words Done stopped refused is_abandoned = []
 run_words words Negative stopped refused is_abandoned = refusal_words refused
 run_words words Usage stopped refused is_abandoned = unmatched_text Mcg words

@@ -8,15 +8,15 @@ ghost use Rattle.front_top.specs.Words.{message_words};
 use crate::ending::FrontEnding;
 use crate::fronting::run_front;
 use bench_top::outside::{DirShelf, LineSink, OutSink, Sink};
-use front_words::arguments::{Arguments, Refusal, read_arguments};
+use front_words::arguments::{ArgumentFault, Arguments, read_arguments};
 use front_words::{is_quiet, say_unread_arguments};
 use std::rt::{Env, Files};
 
 /// How the program ended, with what the runtime gave and what it took.
 #[derive(Drop)]
-pub struct Ended<'a, R: Files + Print, E: Print> {
+pub struct EndedFront<'a, R: Files + Print, E: Print> {
     /// The words of the command line, with what the runtime gave, or why they were not read.
-    pub read: Result<Arguments, Refusal>,
+    pub read: Result<Arguments, ArgumentFault>,
     /// The exit status.
     pub code: u8,
     /// The shelf after the run, with the files that were given.
@@ -39,11 +39,12 @@ fn said_code<E: Sink>(ending: FrontEnding<'_>, errors: &mut E) -> u8
 }
 
 /// The program: reads the words of the command line, does what they ask for, as `run_front`, with
-/// the files and the standard output of the runtime, and then says on the stream what is to be said.
+/// the files and the standard output of the runtime, and then says on the stream what is to be
+/// said.
 pub fn program<'a, R: Files + Print + Env + AllocGlobal, E: Print>(
     runtime: &'a R,
     stream: &'a E,
-) -> Ended<'a, R, E>
+) -> EndedFront<'a, R, E>
     ensures ends { IfOk result.read (λ read.
         EndsOn read.asked.words result.code result.shelf result.sink result.errors) }
     ensures given { IfErr result.read (λ _. result.shelf.given ≡ []) }
@@ -67,7 +68,7 @@ pub fn program<'a, R: Files + Print + Env + AllocGlobal, E: Print>(
             refusal.code()
         }
     };
-    Ended {
+    EndedFront {
         read,
         code,
         shelf,

@@ -6,9 +6,9 @@
 //! after it or one of the first three before it, are answered on standard output, and nothing is
 //! read. For all other words standard output and status are those of `run`. Main definitions, in
 //! specs/: `answer_of` of `front_words` (what such words are answered) and `run_words` of `Words`,
-//! what is said of each ending, a function of the command line, the ending, and whether nobody reads
-//! the output any more: the stop in the ending has what is known of the file. Main promises: the
-//! clauses of `run_front` and of `say`.
+//! what is said of each ending, a function of the command line, the ending, and whether nobody
+//! reads the output any more: the stop in the ending has what is known of the file. Main promises:
+//! the clauses of `run_front` and of `say`.
 //!
 //! Depends on `bench_top` for the run, on `front_words` for the words, and on `outside` for the
 //! shelf and the sinks.
@@ -22,5 +22,5 @@ mod speaking;
 
 pub use ending::{FrontEnding, Message};
 pub use fronting::run_front;
-pub use installed::{Ended, program};
+pub use installed::{EndedFront, program};
 pub use laws::{said_law, table_law};

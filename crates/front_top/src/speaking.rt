@@ -5,7 +5,7 @@ ghost use Rattle.bench_top.specs.from_bench_tasks.Common.{bytes_carried};
 ghost use Rattle.front_words.specs.Saying.{Says};
 ghost use Rattle.front_top.specs.Words.{bad_words, carried_line, lost_words, refusal_words, run_words, stop_words, unread_words};
 
-use bench_top::bench_tasks::{FaultyFile, Stop, UnreadFile};
+use bench_top::bench_tasks::{FaultyFile, LoadStop, UnreadFile};
 use bench_top::outside::Sink;
 use bench_top::{RunEnding, Status};
 use front_words::refusals::Refusal;
@@ -69,20 +69,20 @@ fn say_unread_file<E: Sink>(errors: &mut E, unread: &UnreadFile<'_>) -> Said
 }
 
 // Says of a stop which file it is, and what is wrong with it.
-fn say_stop<E: Sink>(errors: &mut E, stop: &Option<Stop<'_>>) -> Said
+fn say_stop<E: Sink>(errors: &mut E, stop: &Option<LoadStop<'_>>) -> Said
     ensures { Says E.written E.writes E.faults (stop_words stop.now) result errors.old errors.new }
 {
     match stop {
         Some(
-            Stop::Bad {
+            LoadStop::Bad {
                 line,
                 kind,
                 found,
                 ..
             },
         ) => say_bad(errors, *line, *kind, found),
-        Some(Stop::ReadFault { unread, .. }) => say_unread_file(errors, unread),
-        Some(Stop::Memory) | None => say_nothing(errors),
+        Some(LoadStop::ReadFault { unread, .. }) => say_unread_file(errors, unread),
+        Some(LoadStop::Memory) | None => say_nothing(errors),
     }
 }
 

@@ -2,7 +2,7 @@
 -- Stated by: front_words. Used by: front_top, mcg6_front_top.
 use Rattle.std.specs.Prelude.{ℕ, List, [], ◌∷◌, ◌++◌, codes, if◌then◌else◌, Option, None, Some, bytes_eq}
 use Rattle.command_table.specs.Pages.{command_lines}
-use Rattle.command_table.specs.Reasons.{Reason, Unknown, TooMany, TooFew, Wrong, why_unmatched}
+use Rattle.command_table.specs.Reasons.{Mismatch, Unknown, TooMany, TooFew, Wrong, why_unmatched}
 use Rattle.command_table.specs.Rows.{word_meaning, word_need}
 use Rattle.front_words.specs.Answers.{is_help}
 use Rattle.front_words.specs.Programs.{name_of, program_rows, program_usage}
@@ -10,7 +10,7 @@ use Rattle.front_words.specs.Showing.{shown}
 use Rattle.front_words.specs.declared.programs.Program.{Program}
 
 -- the words match no row for this reason
-abbrev pub some_reason_text : (program command : List ℕ) → Reason → List ℕ
+abbrev pub some_reason_text : (program command : List ℕ) → Mismatch → List ℕ
 some_reason_text program command Unknown =
     program ++ (codes ": no command " ++ (shown 60 command ++ (codes "; " ++ (program ++ codes " --help lists them\n"))))
 some_reason_text program command TooMany = program ++ (codes ": too many arguments for " ++ (shown 60 command ++ codes "\n"))
@@ -19,7 +19,7 @@ some_reason_text program command (TooFew missing) =
 some_reason_text program command (Wrong wanted) = program ++ (codes ": " ++ (word_meaning wanted ++ codes "\n"))
 
 -- why the words match no row; nothing if they match one
-abbrev pub mismatch_text : (program command : List ℕ) → Option Reason → List ℕ
+abbrev pub mismatch_text : (program command : List ℕ) → Option Mismatch → List ℕ
 mismatch_text program command None = []
 mismatch_text program command (Some reason) = some_reason_text program command reason
 

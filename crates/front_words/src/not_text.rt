@@ -4,7 +4,7 @@ ghost use Rattle.front_words.specs.Saying.{Says};
 
 use crate::pieces::MessagePiece::{Number, Shown, Text};
 use crate::pieces::{Said, say};
-use arguments::Refusal;
+use arguments::ArgumentFault;
 use outside::Sink;
 
 /// The most bytes that are shown of an argument.
@@ -31,12 +31,12 @@ fn say_not_text<'a, K: Sink>(sink: &mut K, program: &'a str, place: u64, bytes: 
 
 /// Says why the arguments were not read: that memory ran out, or which one is not UTF-8. Takes no
 /// memory.
-pub fn say_unread_arguments<K: Sink>(sink: &mut K, program: &str, refusal: &Refusal) -> Said
+pub fn say_unread_arguments<K: Sink>(sink: &mut K, program: &str, refusal: &ArgumentFault) -> Said
     ensures { Says K.written K.writes K.faults
         (unread_arguments_text program.now refusal.now) result sink.old sink.new }
 {
     match refusal {
-        Refusal::Memory => {
+        ArgumentFault::Memory => {
             say(
                 sink,
                 &[
@@ -45,6 +45,11 @@ pub fn say_unread_arguments<K: Sink>(sink: &mut K, program: &str, refusal: &Refu
                 ],
             )
         }
-        Refusal::NotText { place, bytes } => say_not_text(sink, program, *place as u64, bytes),
+        ArgumentFault::NotText { place, bytes } => say_not_text(
+            sink,
+            program,
+            *place as u64,
+            bytes,
+        ),
     }
 }

@@ -12,7 +12,7 @@ use crate::pieces::MessagePiece::{Shown, Text};
 use crate::pieces::{Said, say};
 use crate::programs::Program;
 use crate::showing::say_bytes;
-use command_table::{Reason, Row, why_unmatched};
+use command_table::{Mismatch, Row, why_unmatched};
 use outside::Sink;
 
 // The most bytes of a command that are shown.
@@ -44,7 +44,7 @@ fn say_some_reason<'a, K: Sink>(
     sink: &mut K,
     program: &'a str,
     command: &'a [u8],
-    reason: Reason,
+    reason: Mismatch,
 ) -> Said
     ensures { Says K.written K.writes K.faults
         (some_reason_text program.now command.now (reason_seen reason)) result sink.old sink.new }
@@ -53,7 +53,7 @@ fn say_some_reason<'a, K: Sink>(
     let command = Shown(command, MOST_OF_COMMAND);
     let end = Text("\n");
     match reason {
-        Reason::Unknown => say(
+        Mismatch::Unknown => say(
             sink,
             &[
                 by,
@@ -64,8 +64,8 @@ fn say_some_reason<'a, K: Sink>(
                 Text(" --help lists them\n"),
             ],
         ),
-        Reason::TooMany => say(sink, &[by, Text(": too many arguments for "), command, end]),
-        Reason::TooFew(missing) => say(
+        Mismatch::TooMany => say(sink, &[by, Text(": too many arguments for "), command, end]),
+        Mismatch::TooFew(missing) => say(
             sink,
             &[
                 by,
@@ -76,12 +76,17 @@ fn say_some_reason<'a, K: Sink>(
                 end,
             ],
         ),
-        Reason::Wrong(wanted) => say(sink, &[by, Text(": "), Text(wanted.note()), end]),
+        Mismatch::Wrong(wanted) => say(sink, &[by, Text(": "), Text(wanted.note()), end]),
     }
 }
 
 // Says why the words match no row; nothing if they match one.
-fn say_reason<K: Sink>(sink: &mut K, program: &str, command: &[u8], reason: Option<Reason>) -> Said
+fn say_reason<K: Sink>(
+    sink: &mut K,
+    program: &str,
+    command: &[u8],
+    reason: Option<Mismatch>,
+) -> Said
     ensures { Says K.written K.writes K.faults
         (mismatch_text program.now command.now (option_map reason_seen reason)) result
         sink.old sink.new }

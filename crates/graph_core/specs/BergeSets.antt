@@ -1,6 +1,6 @@
 -- Berge sets (Tutte 1947, Berge 1958): vertex sets that show a matching to be maximum.
 -- Stated by: match_core, allowed_edges, theorems.
--- Used by: graph_core, graph_facts, definition_laws.
+-- Used by: graph_core, graph_facts, definition_laws, mcg6_lines.
 use Rattle.std.specs.Prelude.{◌≡◌, ◌+◌}
 use Rattle.vset_core.specs.from_counting.Common.{count, Set, union}
 use Rattle.graph_core.specs.Graph.{Graph}

@@ -2,7 +2,7 @@
 -- Theory", chapter 3). They are defined for single vertices, so a statement on v also says `Within
 -- g.order v`.
 -- Stated by: match_core, gallai_edmonds, definition_laws, theorems.
--- Used by: graph_facts, bench_outcomes, bench_top.
+-- Used by: graph_facts, mcg6_lines, bench_outcomes, bench_top.
 use Rattle.std.specs.Prelude.{◌≡◌, ℕ, true}
 use Rattle.vset_core.specs.from_counting.Common.{Within, Set, none}
 use Rattle.graph_core.specs.Graph.{Graph, degree}

@@ -45,7 +45,7 @@ pub fn weak_duality_law()
 
 /// Uncrossing: let X and Y be tight shores at a partition whose quotient is covered, with an odd
 /// number of blocks in X ∩ Y. Then X ∩ Y and X ∪ Y are tight, and no edge joins X - Y with Y - X.
-pub fn uncrossing_law()
+pub fn uncrossing_at_law()
     ensures tight { (g : Graph) (p : List (List ℕ)) (x y : Set) → IsGraph g → AreBlocks g.order p →
         IsCovered (contracted g p) →
         IsTightAt g p x → IsTightAt g p y → is_odd (block_count p (meet x y)) ≡ true →

@@ -12,7 +12,7 @@ use crate::named::Named;
 use crate::names::{Names, name_of};
 use crate::version_one::{VERSION_ONE_EDGES, VERSION_ONE_VERTICES};
 use graph_core::line_text::{
-    FaultKind, LineFormat, Refusal, TextFault, has_form, number, read_text, word,
+    FaultKind, LineFormat, RuleFault, TextFault, has_form, number, read_text, word,
 };
 use graph_core::vset_core::MOST_VERTICES;
 use graph_core::{MOST_EDGES, MultiGraph};
@@ -37,21 +37,21 @@ fn is_over_limits(named: bool, n: u32, m: u32) -> bool
     }
 }
 
-fn read_header(alloc: Global, words: &[&[u8]]) -> Result<EitherBody, Refusal<FaultKind>>
+fn read_header(alloc: Global, words: &[&[u8]]) -> Result<EitherBody, RuleFault<FaultKind>>
     ensures { Gives either_so_far result (either_header (texts_of words.now)) }
 {
     let named = has_form(words, 4, &["p", "mcg2"]);
     if !named && !has_form(words, 4, &["p", "mcg"]) {
-        return Err(Refusal::Fault(FaultKind::Header));
+        return Err(RuleFault::Fault(FaultKind::Header));
     }
     let (Some(n), Some(m)) = (number(word(words, 2)), number(word(words, 3))) else {
-        return Err(Refusal::Fault(FaultKind::Number));
+        return Err(RuleFault::Fault(FaultKind::Number));
     };
     if is_over_limits(named, n, m) {
-        return Err(Refusal::Fault(FaultKind::Limit));
+        return Err(RuleFault::Fault(FaultKind::Limit));
     }
     let Ok(graph) = MultiGraph::new(alloc, n) else {
-        return Err(Refusal::Memory);
+        return Err(RuleFault::Memory);
     };
     let body = Body { graph, edges: m };
     if named {
@@ -68,19 +68,19 @@ fn add_name(
     body: &Body,
     names: &mut Names,
     words: &[&[u8]],
-) -> Result<(), Refusal<FaultKind>>
+) -> Result<(), RuleFault<FaultKind>>
     requires { length names.old < body.now.graph.order }
     ensures { Gives (λ _. named_so_far (so_far body.now) names.new) result
         (vertex_line (so_far body.now) names.old (texts_of words.now)) }
 {
     if !has_form(words, 2, &["v"]) {
-        return Err(Refusal::Fault(FaultKind::Word));
+        return Err(RuleFault::Fault(FaultKind::Word));
     }
     let Some(name) = name_of(word(words, 1)) else {
-        return Err(Refusal::Fault(FaultKind::BadName));
+        return Err(RuleFault::Fault(FaultKind::BadName));
     };
     if names.is_among(name.as_bytes()) {
-        return Err(Refusal::Fault(FaultKind::SameName));
+        return Err(RuleFault::Fault(FaultKind::SameName));
     }
     body.graph.keeps_limits();
     names.push(alloc, name)?;
@@ -88,22 +88,26 @@ fn add_name(
 }
 
 // A line of an edge between named vertices.
-fn add_named_edge(body: &mut Body, names: &Names, words: &[&[u8]]) -> Result<(), Refusal<FaultKind>>
+fn add_named_edge(
+    body: &mut Body,
+    names: &Names,
+    words: &[&[u8]],
+) -> Result<(), RuleFault<FaultKind>>
     ensures { Gives (λ _. named_so_far (so_far body.new) names.now) result
         (named_edge_line (so_far body.old) names.now (texts_of words.now)) }
 {
     if !has_form(words, 3, &["e"]) {
-        return Err(Refusal::Fault(FaultKind::Word));
+        return Err(RuleFault::Fault(FaultKind::Word));
     }
     let (Some(a), Some(b)) = (names.vertex(word(words, 1)), names.vertex(word(words, 2))) else {
-        return Err(Refusal::Fault(FaultKind::Unnamed));
+        return Err(RuleFault::Fault(FaultKind::Unnamed));
     };
     if word(words, 1) == word(words, 2) {
-        return Err(Refusal::Fault(FaultKind::Loop));
+        return Err(RuleFault::Fault(FaultKind::Loop));
     }
     match body.graph.add_edge(a, b) {
         Ok(_) => Ok(()),
-        Err(_) => Err(Refusal::Memory),
+        Err(_) => Err(RuleFault::Memory),
     }
 }
 
@@ -113,7 +117,7 @@ fn read_named_line(
     body: &mut Body,
     names: &mut Names,
     words: &[&[u8]],
-) -> Result<(), Refusal<FaultKind>>
+) -> Result<(), RuleFault<FaultKind>>
     ensures { Gives (λ _. named_so_far (so_far body.new) names.new) result
         (named_line (so_far body.old) names.old (texts_of words.now)) }
 {
@@ -121,13 +125,13 @@ fn read_named_line(
         return add_name(alloc, body, names, words);
     }
     if body.graph.size() == body.edges {
-        return Err(Refusal::Fault(FaultKind::Extra));
+        return Err(RuleFault::Fault(FaultKind::Extra));
     }
     add_named_edge(body, names, words)
 }
 
 // The end of a text of version 2.
-fn close_named(body: Body, names: Names) -> Result<Named, Refusal<FaultKind>>
+fn close_named(body: Body, names: Names) -> Result<Named, RuleFault<FaultKind>>
     ensures { Gives named_graph result (end_behind (so_far body) (Some names)) }
 {
     let all = names.len() == body.graph.order() as usize;
@@ -137,7 +141,7 @@ fn close_named(body: Body, names: Names) -> Result<Named, Refusal<FaultKind>>
             names: Some(names),
         })
     } else {
-        Err(Refusal::Fault(FaultKind::Missing))
+        Err(RuleFault::Fault(FaultKind::Missing))
     }
 }
 
@@ -158,11 +162,15 @@ impl LineFormat for EitherVersion {
 
     ghost rules = { λ _. either_version };
 
-    fn header(&self, words: &[&[u8]]) -> Result<EitherBody, Refusal<FaultKind>> {
+    fn header(&self, words: &[&[u8]]) -> Result<EitherBody, RuleFault<FaultKind>> {
         read_header(self.alloc, words)
     }
 
-    fn line(&self, either: EitherBody, words: &[&[u8]]) -> Result<EitherBody, Refusal<FaultKind>> {
+    fn line(
+        &self,
+        either: EitherBody,
+        words: &[&[u8]],
+    ) -> Result<EitherBody, RuleFault<FaultKind>> {
         let EitherBody { mut body, names } = either;
         match names {
             Some(mut names) => {
@@ -177,7 +185,7 @@ impl LineFormat for EitherVersion {
         }
     }
 
-    fn close(&self, either: EitherBody) -> Result<Named, Refusal<FaultKind>> {
+    fn close(&self, either: EitherBody) -> Result<Named, RuleFault<FaultKind>> {
         let EitherBody { body, names } = either;
         match names {
             Some(names) => close_named(body, names),

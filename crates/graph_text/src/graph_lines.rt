@@ -6,50 +6,50 @@ ghost use Rattle.graph_text.specs.Common.{GraphSoFar, edge_line, graph_line, gra
 
 use crate::body::Body;
 use graph_core::MultiGraph;
-use graph_core::line_text::{FaultKind, Refusal, has_form, number, word};
+use graph_core::line_text::{FaultKind, RuleFault, has_form, number, word};
 
 // A line of an edge between numbered vertices.
-fn add_edge(body: &mut Body, words: &[&[u8]]) -> Result<(), Refusal<FaultKind>>
+fn add_edge(body: &mut Body, words: &[&[u8]]) -> Result<(), RuleFault<FaultKind>>
     ensures { Gives (λ _. so_far body.new) result
         (edge_line (so_far body.old) (texts_of words.now)) }
 {
     if !has_form(words, 3, &["e"]) {
-        return Err(Refusal::Fault(FaultKind::Word));
+        return Err(RuleFault::Fault(FaultKind::Word));
     }
     let (Some(a), Some(b)) = (number(word(words, 1)), number(word(words, 2))) else {
-        return Err(Refusal::Fault(FaultKind::Number));
+        return Err(RuleFault::Fault(FaultKind::Number));
     };
     let n = body.graph.order();
     if a == 0 || a > n || b == 0 || b > n {
-        return Err(Refusal::Fault(FaultKind::Range));
+        return Err(RuleFault::Fault(FaultKind::Range));
     }
     if a == b {
-        return Err(Refusal::Fault(FaultKind::Loop));
+        return Err(RuleFault::Fault(FaultKind::Loop));
     }
     match body.graph.add_edge(a, b) {
         Ok(_) => Ok(()),
-        Err(_) => Err(Refusal::Memory),
+        Err(_) => Err(RuleFault::Memory),
     }
 }
 
 /// A significant line after the header.
-pub fn read_edge(body: &mut Body, words: &[&[u8]]) -> Result<(), Refusal<FaultKind>>
+pub fn read_edge(body: &mut Body, words: &[&[u8]]) -> Result<(), RuleFault<FaultKind>>
     ensures { Gives (λ _. so_far body.new) result
         (graph_line (so_far body.old) (texts_of words.now)) }
 {
     if body.graph.size() == body.edges {
-        return Err(Refusal::Fault(FaultKind::Extra));
+        return Err(RuleFault::Fault(FaultKind::Extra));
     }
     add_edge(body, words)
 }
 
 /// The end of the text.
-pub fn close_graph(body: Body) -> Result<MultiGraph, Refusal<FaultKind>>
+pub fn close_graph(body: Body) -> Result<MultiGraph, RuleFault<FaultKind>>
     ensures { Gives (λ (g : Graph). g) result (graph_end (so_far body)) }
 {
     if body.graph.size() == body.edges {
         Ok(body.graph)
     } else {
-        Err(Refusal::Fault(FaultKind::Missing))
+        Err(RuleFault::Fault(FaultKind::Missing))
     }
 }

@@ -15,7 +15,7 @@ pub fn written_graph_law()
 {}
 
 /// Appending comments to the text of a graph changes nothing.
-pub fn comments_law()
+pub fn graph_comments_law()
     ensures { (g : Graph) (comments : List ℕ) → FitsVersionOne g
         → AllByRecursion (λ line. is_skipped (words_of line) ≡ true) (lines_of comments)
         → Stands version_one (graph_text g ++ comments) g }

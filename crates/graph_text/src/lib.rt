@@ -7,7 +7,7 @@
 //! rules say. `write_graph` and `write_named` write the canonical texts of `specs/Writing`, and
 //! reading them gives the same graph again: `laws::written_graph_law`,
 //! `laws::written_names_law`. Comments at the end change nothing:
-//! `laws::comments_law`.
+//! `laws::graph_comments_law`.
 //!
 //! Depends on `line_text` for what a format is and for the reader, on `graph_core` for graphs and
 //! on `indexmap` for the names. The style of the format is that of the graph files of the DIMACS

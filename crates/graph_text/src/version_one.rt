@@ -11,7 +11,7 @@ use crate::body::Body;
 use crate::graph_lines::{close_graph, read_edge};
 use graph_core::MultiGraph;
 use graph_core::line_text::{
-    FaultKind, LineFormat, Refusal, TextFault, has_form, number, read_text, word,
+    FaultKind, LineFormat, RuleFault, TextFault, has_form, number, read_text, word,
 };
 use std::alloc::Global;
 
@@ -27,21 +27,21 @@ struct VersionOne {
     alloc: Global,
 }
 
-fn read_header(alloc: Global, words: &[&[u8]]) -> Result<Body, Refusal<FaultKind>>
+fn read_header(alloc: Global, words: &[&[u8]]) -> Result<Body, RuleFault<FaultKind>>
     ensures { Gives so_far result (header (texts_of words.now)) }
 {
     if !has_form(words, 4, &["p", "mcg"]) {
-        return Err(Refusal::Fault(FaultKind::Header));
+        return Err(RuleFault::Fault(FaultKind::Header));
     }
     let (Some(n), Some(m)) = (number(word(words, 2)), number(word(words, 3))) else {
-        return Err(Refusal::Fault(FaultKind::Number));
+        return Err(RuleFault::Fault(FaultKind::Number));
     };
     if n > VERSION_ONE_VERTICES || m > VERSION_ONE_EDGES {
-        return Err(Refusal::Fault(FaultKind::Limit));
+        return Err(RuleFault::Fault(FaultKind::Limit));
     }
     match MultiGraph::new(alloc, n) {
         Ok(graph) => Ok(Body { graph, edges: m }),
-        Err(_) => Err(Refusal::Memory),
+        Err(_) => Err(RuleFault::Memory),
     }
 }
 
@@ -62,17 +62,17 @@ impl LineFormat for VersionOne {
 
     ghost rules = { λ _. version_one };
 
-    fn header(&self, words: &[&[u8]]) -> Result<Body, Refusal<FaultKind>> {
+    fn header(&self, words: &[&[u8]]) -> Result<Body, RuleFault<FaultKind>> {
         read_header(self.alloc, words)
     }
 
-    fn line(&self, body: Body, words: &[&[u8]]) -> Result<Body, Refusal<FaultKind>> {
+    fn line(&self, body: Body, words: &[&[u8]]) -> Result<Body, RuleFault<FaultKind>> {
         let mut body = body;
         read_edge(&mut body, words)?;
         Ok(body)
     }
 
-    fn close(&self, body: Body) -> Result<MultiGraph, Refusal<FaultKind>> {
+    fn close(&self, body: Body) -> Result<MultiGraph, RuleFault<FaultKind>> {
         close_graph(body)
     }
 

@@ -10,7 +10,7 @@ use graph_core::{Kind, MultiGraph};
 use std::alloc::{AllocError as Memory, Global};
 use tight_cuts::first_cut;
 use tight_cuts::graph_facts::Covered;
-use tight_cuts::separation_kit::{FirstPairs, brick_law};
+use tight_cuts::separation_kit::{FirstPairs, brick_conditions_law};
 
 /// The kind of a covered graph (Lovász 1987): composite if and only if it has a nontrivial tight
 /// cut, with the shore that `find_any` returns; otherwise a brace if it is bipartite, and a brick
@@ -61,7 +61,7 @@ fn kind_by_cut(pairs: &FirstPairs, cut: Option<VSet>) -> Kind
     ensures brick { result ≡ Kind.Brick → IsThreeConnectedAndBicritical pairs.now }
 {
     pairs.keeps_covered();
-    brick_law();
+    brick_conditions_law();
     if let Some(cut) = cut {
         return Kind::Composite { cut };
     }

@@ -5,7 +5,7 @@ ghost use Rattle.leaf_kinds.specs.LeafKinds.{IsKind, IsThreeConnectedAndBicritic
 
 /// A brick has at least four vertices, is bicritical and has no cut pair (Edmonds, Lovász and
 /// Pulleyblank 1982; Lovász 1987).
-pub fn brick_law()
+pub fn brick_kind_law()
     ensures { (g : Graph) → IsMultigraph g → IsCovered g → IsKind g Brick →
         IsThreeConnectedAndBicritical g }
 {}

@@ -16,5 +16,5 @@ mod laws;
 
 // Passed on to the crates above.
 pub use kinds::{kind, kind_of};
-pub use laws::brick_law;
+pub use laws::brick_kind_law;
 pub use tight_cuts::{graph_facts, separation_kit};

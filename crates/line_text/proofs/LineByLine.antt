@@ -2,12 +2,12 @@
 -- decides what comes of it and the lines after it.
 use Rattle.std.proofs.Common.{◌≡◌, ℕ, ◌+◌, List, [], ◌∷◌, Bool, cond, Option, Some, Result, Ok, Err, ap, arith, rules}
 use Rattle.std.specs.Result.{result_map_both}
-use Rattle.line_text.specs.declared.format.Refusal.{Refusal}
-use Rattle.line_text.specs.declared.format.Refusal.TheVariants as refusal
+use Rattle.line_text.specs.declared.format.RuleFault.{RuleFault}
+use Rattle.line_text.specs.declared.format.RuleFault.TheVariants as refusal
 use Rattle.line_text.specs.Common.{words_of, is_skipped, significant_from, Rules, step, finish, Refuses, Fails, state_after, placed, go_on, reading_from}
 
 -- a reader that places a rule's refusal names the error that the rule gives
-pub Fails-placed : {Body Value Kind : Type 0} (number : ℕ) (refused : Refusal Kind) (given : Result Body Kind) (outcome : Result Value (ℕ × Kind)) → Refuses refused given → ((kind : Kind) → given ≡ Err kind → outcome ≡ Err (number, kind)) → Fails (placed number refused) outcome
+pub Fails-placed : {Body Value Kind : Type 0} (number : ℕ) (refused : RuleFault Kind) (given : Result Body Kind) (outcome : Result Value (ℕ × Kind)) → Refuses refused given → ((kind : Kind) → given ≡ Err kind → outcome ≡ Err (number, kind)) → Fails (placed number refused) outcome
 Fails-placed number (refusal.Fault kind) given outcome refuses follows = follows kind refuses
 Fails-placed number refusal.Memory given outcome refuses follows = tt
 

@@ -1,6 +1,6 @@
 -- The numbers that words write.
 -- Stated by: line_text, move_text.
--- Used by: graph_text, tree_text, ear_text, command_table, bench_tasks, front_top and 3 more.
+-- Used by: graph_text, tree_text, ear_text, command_table, front_words, bench_tasks and 4 more.
 use Rattle.std.specs.Prelude.{ℕ, ◌&&◌, nat_le, List, length, Bool, if◌then◌else◌, Option, Some, None, unwrap_or, is_some, map}
 use Rattle.std.specs.Char.{is_ascii_digit}
 use Rattle.std.specs.List.{list_all}

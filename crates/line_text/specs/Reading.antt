@@ -3,8 +3,8 @@
 -- Used by: bench_top, theorems.
 use Rattle.std.specs.Prelude.{◌≡◌, ◌↔◌, ℕ, ◌+◌, List, [], ◌∷◌, length, Option, Some, None, Result, Ok, Err, if◌then◌else◌}
 use Rattle.std.specs.Result.{result_map_both}
-use Rattle.line_text.specs.declared.format.Refusal.{Refusal}
-use Rattle.line_text.specs.declared.format.Refusal.TheVariants as refusal
+use Rattle.line_text.specs.declared.format.RuleFault.{RuleFault}
+use Rattle.line_text.specs.declared.format.RuleFault.TheVariants as refusal
 use Rattle.line_text.specs.declared.format.LineFault.{LineFault}
 use Rattle.line_text.specs.declared.format.LineFault.TheVariants as fault
 use Rattle.line_text.specs.Lines.{lines_of}
@@ -12,12 +12,12 @@ use Rattle.line_text.specs.Words.{SignificantLine, significant_lines_of, is_skip
 use Rattle.line_text.specs.Format.{Rules, step, finish, Stands, FirstFault}
 
 -- the error that a rule returns is the expected one, unless memory ran out
-abbrev pub Refuses : {Y Kind : Type 0} → Refusal Kind → Result Y Kind → Type 0
+abbrev pub Refuses : {Y Kind : Type 0} → RuleFault Kind → Result Y Kind → Type 0
 Refuses (refusal.Fault kind) given = given ≡ Err kind
 Refuses refusal.Memory given = Unit {0}
 
 -- what a rule returned, seen by view, is the expected value, unless memory ran out
-abbrev pub Gives : {X Y Kind : Type 0} → (X → Y) → Result X (Refusal Kind) → Result Y Kind → Type 0
+abbrev pub Gives : {X Y Kind : Type 0} → (X → Y) → Result X (RuleFault Kind) → Result Y Kind → Type 0
 Gives view (Ok x) given = given ≡ Ok (view x)
 Gives view (Err refused) given = Refuses refused given
 
@@ -32,7 +32,7 @@ Reads view (Ok x) outcome = outcome ≡ Ok (view x)
 Reads view (Err failed) outcome = Fails failed outcome
 
 -- a rule's error, at the line of this number
-abbrev pub placed : {Kind : Type 0} → ℕ → Refusal Kind → LineFault Kind
+abbrev pub placed : {Kind : Type 0} → ℕ → RuleFault Kind → LineFault Kind
 placed number (refusal.Fault kind) = fault.At number kind
 placed number refusal.Memory = fault.Memory
 

@@ -1,5 +1,5 @@
 -- The words of a line, and the significant lines of a text.
--- Stated by: line_text, graph_text, tree_text, move_text, ear_text, report_text.
+-- Stated by: line_text, graph_text, tree_text, move_text, ear_text, report_text, front_words.
 -- Used by: bench_outcomes, bench_reports, bench_top, theorems.
 use Rattle.std.specs.Prelude.{◌≡◌, ℕ, ◌+◌, ◌==◌, ◌||◌, ◌&&◌, not, List, [], ◌∷◌, ◌++◌, length, filter, Bool, true, false, if◌then◌else◌, codes, map, slice_index_or, bytes_eq}
 use Rattle.std.specs.Borrow.{Bor}

@@ -6,30 +6,30 @@ use std::alloc::{AllocError, AllocFailed};
 /// Why a rule of a format stops: an error of the text, by its kind, or lack of memory. `?` turns an
 /// allocator's error into `Memory`.
 #[derive(Clone, Copy, Debug, PartialEq, Eq, Drop)]
-pub enum Refusal<K> {
+pub enum RuleFault<K> {
     /// The line, or the end of the text, breaks the format in this way.
     Fault(K),
     /// Memory ran out, whatever the text says.
     Memory,
 }
 
-impl<K> From<AllocError> for Refusal<K> {
-    ghost use Rattle.line_text.specs.declared.format.Refusal.TheVariants.{Memory};
+impl<K> From<AllocError> for RuleFault<K> {
+    ghost use Rattle.line_text.specs.declared.format.RuleFault.TheVariants.{Memory};
 
     ghost from_gives = { λ _ refusal. refusal ≡ Memory };
 
-    fn from(_error: AllocError) -> Refusal<K> {
-        Refusal::Memory
+    fn from(_error: AllocError) -> RuleFault<K> {
+        RuleFault::Memory
     }
 }
 
-impl<K, T: Drop> From<AllocFailed<T>> for Refusal<K> {
-    ghost use Rattle.line_text.specs.declared.format.Refusal.TheVariants.{Memory};
+impl<K, T: Drop> From<AllocFailed<T>> for RuleFault<K> {
+    ghost use Rattle.line_text.specs.declared.format.RuleFault.TheVariants.{Memory};
 
     ghost from_gives = { λ _ refusal. refusal ≡ Memory };
 
-    fn from(_error: AllocFailed<T>) -> Refusal<K> {
-        Refusal::Memory
+    fn from(_error: AllocFailed<T>) -> RuleFault<K> {
+        RuleFault::Memory
     }
 }
 
@@ -74,16 +74,16 @@ pub trait LineFormat {
     ghost rules: { Self → Rules State Meaning Self.Kind };
 
     /// What has been read once the header is: the first line that is not skipped, by its words.
-    fn header(&self, words: &[&[u8]]) -> Result<Self::Body, Refusal<Self::Kind>>
+    fn header(&self, words: &[&[u8]]) -> Result<Self::Body, RuleFault<Self::Kind>>
         ensures { Gives state result ((rules self.now).header (texts_of words.now)) };
 
     /// What has been read after a further line, from the words of the line and what was read before
     /// it.
-    fn line(&self, body: Self::Body, words: &[&[u8]]) -> Result<Self::Body, Refusal<Self::Kind>>
+    fn line(&self, body: Self::Body, words: &[&[u8]]) -> Result<Self::Body, RuleFault<Self::Kind>>
         ensures { Gives state result ((rules self.now).line (state body) (texts_of words.now)) };
 
     /// What the text stands for if it ends here.
-    fn close(&self, body: Self::Body) -> Result<Self::Value, Refusal<Self::Kind>>
+    fn close(&self, body: Self::Body) -> Result<Self::Value, RuleFault<Self::Kind>>
         ensures { Gives meaning result ((rules self.now).close (state body)) };
 
     /// The kind of the error of a text without a header.

@@ -26,7 +26,7 @@ mod reading;
 mod words;
 
 pub use faults::{FaultKind, TextFault};
-pub use format::{LineFault, LineFormat, Refusal};
+pub use format::{LineFault, LineFormat, RuleFault};
 pub use lines::split_line;
 pub use numerals::{number, numbers};
 pub use ranges::{has_out_of_range, is_out_of_range};

@@ -4,7 +4,7 @@ ghost use Rattle.std.specs.Prelude.{◌≡◌, ◌<◌, ◌-◌, ◌^◌, ℕ, m
 ghost use Rattle.std.specs.Option.{option_map};
 ghost use Rattle.line_text.specs.Common.{words_of, finish, Stands, FirstFault, Gives, Reads, state_after, reading_of, placed, IsFirst};
 
-use crate::format::{LineFault, LineFormat, Refusal};
+use crate::format::{LineFault, LineFormat, RuleFault};
 use crate::lines::split_line;
 use crate::words::{is_skipped, split_words};
 use std::alloc::Global;
@@ -15,7 +15,7 @@ fn read_line<F: LineFormat>(
     format: &F,
     body: Option<F::Body>,
     line: &[u8],
-) -> Result<Option<F::Body>, Refusal<F::Kind>>
+) -> Result<Option<F::Body>, RuleFault<F::Kind>>
     ensures { Gives (option_map F.state) result
         (state_after (F.rules format.now) (option_map F.state body) (words_of line.now)) }
 {
@@ -31,22 +31,25 @@ fn read_line<F: LineFormat>(
 }
 
 // What the text stands for if it ends here.
-fn read_end<F: LineFormat>(format: &F, body: Option<F::Body>) -> Result<F::Value, Refusal<F::Kind>>
+fn read_end<F: LineFormat>(
+    format: &F,
+    body: Option<F::Body>,
+) -> Result<F::Value, RuleFault<F::Kind>>
     ensures { Gives F.meaning result (finish (F.rules format.now) (option_map F.state body)) }
 {
     match body {
-        None => Err(Refusal::Fault(format.headless())),
+        None => Err(RuleFault::Fault(format.headless())),
         Some(body) => format.close(body),
     }
 }
 
 // The error of a rule at a line.
-fn place<K>(refusal: Refusal<K>, line: u32) -> LineFault<K>
+fn place<K>(refusal: RuleFault<K>, line: u32) -> LineFault<K>
     ensures { result ≡ placed line refusal }
 {
     match refusal {
-        Refusal::Fault(kind) => LineFault::At { line, kind },
-        Refusal::Memory => LineFault::Memory,
+        RuleFault::Fault(kind) => LineFault::At { line, kind },
+        RuleFault::Memory => LineFault::Memory,
     }
 }
 

@@ -1,6 +1,6 @@
 -- Matchings by mates: for each vertex the other end of its edge, or 0 if it is exposed. Which of
 -- several parallel edges joins two mates is not recorded.
--- Stated by: match_search, match_core. Used by: ear_core.
+-- Stated by: match_search, match_core. Used by: ear_core, mcg6_lines, theorems.
 use Rattle.std.specs.Prelude.{◌≡◌, ◌≢◌, ℕ, zero, suc, ◌+◌, ◌<◌, ◌⊎◌, ◌==◌, cond, true, false, List}
 use Rattle.graph_core.specs.from_counting.Common.{Within, Set, none}
 use Rattle.graph_core.specs.Common.{Graph, HasEnds, degree, first_end, second_end, size, IsMatching}

@@ -1,6 +1,6 @@
 -- What the last step of a search proves about a matching given by its mates, and what the rows of a
 -- table share.
--- Stated by: match_search, match_core.
+-- Stated by: match_search, match_core. Used by: mcg6_lines.
 use Rattle.std.specs.Prelude.{◌≡◌, ◌≢◌, ℕ, ◌-◌, true, false, length, List}
 use Rattle.graph_core.specs.from_counting.Common.{Within, count, Set, mem}
 use Rattle.graph_core.specs.Common.{Graph, size, IsMatching, missed_count}

@@ -1,5 +1,5 @@
 -- Rows of the code as sets, as numbers by place, and as the ends of edges.
--- Stated by: match_search, match_core, allowed_edges, contraction, tight_cuts, ear_core.
+-- Stated by: match_search, match_core, allowed_edges, contraction, tight_cuts, ear_core and 1 more.
 use Rattle.std.specs.Prelude.{◌+◌, ℕ, List, Bool, false, slice_index_or, slice_index}
 use Rattle.graph_core.specs.declared.ends.Ends.{Ends}
 

@@ -4,8 +4,8 @@ use Rattle.std.proofs.Common.{◌≡◌, ◌∙◌, ◌<◌, ◌≤◌, ℕ, Lis
 use Rattle.outside.specs.Common.{appended, most_bytes}
 use Rattle.outside.proofs.Pieces.{appended-nil}
 use Rattle.mcg6_reader.specs.declared.ending.BadLine.{BadLine}
-use Rattle.mcg6_encoder.specs.declared.ending.EncodeEnding.{EncodeEnding}
-use Rattle.mcg6_encoder.specs.declared.ending.EncodeEnding.TheVariants.{Encoded, Bad, ReadFault, WriteFault, Memory}
+use Rattle.mcg6_reader.specs.declared.ending.InputEnding.{InputEnding}
+use Rattle.mcg6_reader.specs.declared.ending.InputEnding.TheVariants.{Done, Bad, ReadFault, WriteFault, Memory}
 use Rattle.mcg6_reader.specs.Common.{Appended, IsKnownLeft}
 use Rattle.mcg6_encoder.specs.Files.{Encodes, NamesTooLong}
 use Rattle.mcg6_encoder.proofs.ReadsSoFar.{some_read}
@@ -14,10 +14,10 @@ use Rattle.mcg6_encoder.specs.Reads.{EncodesFile, IsReadWhole, LeavesMore, Reads
 -- the file was read whole, and then written up to an ending
 pub after_read :
     {S K : Type 0} (reads : S → Option (List ℕ) → S → Type 0) (written : K → Option (List ℕ)) (writes : K → List ℕ → ℕ → K → Type 0)
-    (file : List ℕ) (ending : EncodeEnding) (source : S) (sink : K) (last_source : S) (last_sink : K) →
+    (file : List ℕ) (ending : InputEnding) (source : S) (sink : K) (last_source : S) (last_sink : K) →
     IsReadWhole reads file source last_source → WritesUpTo written writes file ending sink last_sink →
     ReadsThenWrites reads written writes ending source sink last_source last_sink
-after_read reads written writes file Encoded source sink last_source last_sink read wrote = record { file = file; read = read; wrote = wrote }
+after_read reads written writes file Done source sink last_source last_sink read wrote = record { file = file; read = read; wrote = wrote }
 after_read reads written writes file (Bad found) source sink last_source last_sink read wrote =
     inr (record { file = file; read = read; wrote = wrote })
 after_read reads written writes file ReadFault source sink last_source last_sink read wrote = absurd wrote
@@ -31,10 +31,10 @@ same_written written sink last same = ap written same ∙ sym (appended-nil (wri
 
 -- the bytes that were written are those that the file gives
 pub file_encoded :
-    {K : Type 0} (written : K → Option (List ℕ)) (writes : K → List ℕ → ℕ → K → Type 0) (file : List ℕ) (ending : EncodeEnding)
+    {K : Type 0} (written : K → Option (List ℕ)) (writes : K → List ℕ → ℕ → K → Type 0) (file : List ℕ) (ending : InputEnding)
     (left : Option (List ℕ)) (sink last : K) → IsKnownLeft left file → length file ≤ most_bytes → WritesUpTo written writes file ending sink last →
     EncodesFile ending left (written sink) (written last)
-file_encoded written writes file Encoded left sink last is short wrote = record {
+file_encoded written writes file Done left sink last is short wrote = record {
   file = file;
   is_left = is;
   encodes = record { output = wrote.output; right = (short, wrote.encoded); written = wrote.now };
@@ -77,7 +77,7 @@ long_file found (Some all) told bytes more longer named = record {
 
 -- nothing was written of any file
 pub no_file :
-    (ending : EncodeEnding) (left told : Option (List ℕ)) → ((file : List ℕ) → Encodes file ending []) → EncodesFile ending left told told
+    (ending : InputEnding) (left told : Option (List ℕ)) → ((file : List ℕ) → Encodes file ending []) → EncodesFile ending left told told
 no_file ending None told nothing = record {
   file = [];
   is_left = tt;
@@ -91,7 +91,7 @@ no_file ending (Some all) told nothing = record {
 
 -- if the source makes known what is left, the file is that
 pub told_file :
-    (ending : EncodeEnding) (left before now : Option (List ℕ)) (file : List ℕ) → EncodesFile ending left before now → left ≡ Some file →
+    (ending : InputEnding) (left before now : Option (List ℕ)) (file : List ℕ) → EncodesFile ending left before now → left ≡ Some file →
     Appended (Encodes file ending) before now
 told_file ending left before now file encodes is =
     let same : file ≡ encodes.file = subst (λ (o : Option (List ℕ)). IsKnownLeft o encodes.file) is encodes.is_left in

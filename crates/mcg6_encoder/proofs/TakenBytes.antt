@@ -4,8 +4,8 @@ use Rattle.std.proofs.Common.{◌≡◌, ◌∙◌, ◌<◌, ℕ, zero, suc, Lis
 use Rattle.outside.specs.Common.{appended, bytes_given, HasTaken, ReadState, read_after, most_bytes}
 use Rattle.outside.proofs.Pieces.{appended-nil}
 use Rattle.mcg6_reader.specs.Common.{Appended, ReadsGave}
-use Rattle.mcg6_encoder.specs.declared.ending.EncodeEnding.{EncodeEnding}
-use Rattle.mcg6_encoder.specs.declared.ending.EncodeEnding.TheVariants.{Encoded, Bad, ReadFault, WriteFault, Memory}
+use Rattle.mcg6_reader.specs.declared.ending.InputEnding.{InputEnding}
+use Rattle.mcg6_reader.specs.declared.ending.InputEnding.TheVariants.{Done, Bad, ReadFault, WriteFault, Memory}
 use Rattle.mcg6_encoder.specs.Files.{Encodes}
 use Rattle.mcg6_encoder.specs.Reads.{IsReadWhole, ReadsGive, ReadsThenWrites, WritesAfter}
 use Rattle.mcg6_encoder.proofs.Encodings.{file_encoded, told_file}
@@ -49,12 +49,12 @@ give-takes (suc count) bytes first last gave =
     takes-more gave.0 (Some gave.1) bytes first gave.2 last (give-takes count gave.0 first gave.2 gave.3) gave.4 gave.5
 
 -- these bytes were read, and what was written up to an ending is what they give as a graph file
-pub record EncodesTaken (ending : EncodeEnding) (first last : ReadState) (before now : Option (List ℕ)) : Type 0 where
+pub record EncodesTaken (ending : InputEnding) (first last : ReadState) (before now : Option (List ℕ)) : Type 0 where
   pub file : List ℕ
   pub takes : TakesBytes file first last
   pub encodes : Appended (Encodes file ending) before now
 
-whole-taken : {K : Type 0} (written : K → Option (List ℕ)) (writes : K → List ℕ → ℕ → K → Type 0) (ending : EncodeEnding) (first last : ReadState) (before now : K) →
+whole-taken : {K : Type 0} (written : K → Option (List ℕ)) (writes : K → List ℕ → ℕ → K → Type 0) (ending : InputEnding) (first last : ReadState) (before now : K) →
     WritesAfter HasTaken written writes ending first before last now → EncodesTaken ending first last (written before) (written now)
 whole-taken written writes ending first last before now after =
     let read = after.read in
@@ -69,9 +69,9 @@ whole-taken written writes ending first last before now after =
 same-written : {K : Type 0} (written : K → Option (List ℕ)) (before now : K) → now ≡ before → written now ≡ appended (written before) []
 same-written written before now same = ap written same ∙ sym (appended-nil (written before))
 
-pub file-taken : {K : Type 0} (written : K → Option (List ℕ)) (writes : K → List ℕ → ℕ → K → Type 0) (ending : EncodeEnding) (first last : ReadState) (before now : K) →
+pub file-taken : {K : Type 0} (written : K → Option (List ℕ)) (writes : K → List ℕ → ℕ → K → Type 0) (ending : InputEnding) (first last : ReadState) (before now : K) →
     ReadsThenWrites HasTaken written writes ending first before last now → EncodesTaken ending first last (written before) (written now)
-file-taken written writes Encoded first last before now order = whole-taken written writes Encoded first last before now order
+file-taken written writes Done first last before now order = whole-taken written writes Done first last before now order
 file-taken written writes (Bad found) first last before now (inl past) =
     let read = past.read in
     record {

@@ -7,8 +7,8 @@ use Rattle.graph_text.specs.Common.{NamedGraph, either_version}
 use Rattle.graph6_text.specs.Common.{graph6_of, ReadsBack}
 use Rattle.graph_core.specs.from_line_text.declared.faults.FaultKind.TheVariants.{Limit}
 use Rattle.mcg6_reader.specs.declared.ending.BadLine.{BadLine}
-use Rattle.mcg6_encoder.specs.declared.ending.EncodeEnding.{EncodeEnding}
-use Rattle.mcg6_encoder.specs.declared.ending.EncodeEnding.TheVariants.{Encoded, Bad, ReadFault, WriteFault, Memory}
+use Rattle.mcg6_reader.specs.declared.ending.InputEnding.{InputEnding}
+use Rattle.mcg6_reader.specs.declared.ending.InputEnding.TheVariants.{Done, Bad, ReadFault, WriteFault, Memory}
 
 -- the file stands for a graph in one of the two versions, and the output is the graph6 text of that
 -- graph, with a line feed: for any two vertices one bit that says whether an edge joins them. So it
@@ -49,8 +49,8 @@ pub record IsCutShort (file output : List ℕ) : Type 0 where
 
 -- what is written for a file with these bytes up to an ending: everything, or after any error
 -- before the write, nothing
-abbrev pub Encodes : (file : List ℕ) → EncodeEnding → (output : List ℕ) → Type 0
-Encodes file Encoded output = (length file ≤ most_bytes) × IsEncoded file output
+abbrev pub Encodes : (file : List ℕ) → InputEnding → (output : List ℕ) → Type 0
+Encodes file Done output = (length file ≤ most_bytes) × IsEncoded file output
 Encodes file (Bad found) output = IsBadFile file found × (output ≡ [])
 Encodes file ReadFault output = output ≡ []
 Encodes file WriteFault output = (length file ≤ most_bytes) × IsCutShort file output

@@ -3,8 +3,8 @@
 use Rattle.std.specs.Prelude.{◌≡◌, ◌⊎◌, ℕ, ◌+◌, zero, suc, ◌<◌, ◌≤◌, List, [], ◌++◌, length, take, Option, Some, None}
 use Rattle.outside.specs.Common.{appended, IsWritten, IsCutOff, most_bytes}
 use Rattle.mcg6_reader.specs.declared.ending.BadLine.{BadLine}
-use Rattle.mcg6_encoder.specs.declared.ending.EncodeEnding.{EncodeEnding}
-use Rattle.mcg6_encoder.specs.declared.ending.EncodeEnding.TheVariants.{Encoded, Bad, ReadFault, WriteFault, Memory}
+use Rattle.mcg6_reader.specs.declared.ending.InputEnding.{InputEnding}
+use Rattle.mcg6_reader.specs.declared.ending.InputEnding.TheVariants.{Done, Bad, ReadFault, WriteFault, Memory}
 use Rattle.mcg6_reader.specs.Common.{Appended, IsKnownLeft}
 use Rattle.mcg6_encoder.specs.Files.{Encodes, IsEncoded, IsOutside, NamesTooLong}
 
@@ -80,15 +80,15 @@ pub record WroteCutOff {K : Type 0} (written : K → Option (List ℕ)) (writes 
 
 -- what was written of a file with these bytes up to an ending
 abbrev pub WritesUpTo :
-    {K : Type 0} → (K → Option (List ℕ)) → (K → List ℕ → ℕ → K → Type 0) → (file : List ℕ) → EncodeEnding → (first last : K) → Type 0
-WritesUpTo written writes file Encoded first last = WroteEncoded written writes file first last
+    {K : Type 0} → (K → Option (List ℕ)) → (K → List ℕ → ℕ → K → Type 0) → (file : List ℕ) → InputEnding → (first last : K) → Type 0
+WritesUpTo written writes file Done first last = WroteEncoded written writes file first last
 WritesUpTo written writes file (Bad found) first last = IsOutside file found × (last ≡ first)
 WritesUpTo written writes file ReadFault first last = ⊥
 WritesUpTo written writes file WriteFault first last = WroteCutOff written writes file first last
 WritesUpTo written writes file Memory first last = last ≡ first
 
 -- the file was read completely, and then this was written for it
-pub record WritesAfter {S K : Type 0} (reads : S → Option (List ℕ) → S → Type 0) (written : K → Option (List ℕ)) (writes : K → List ℕ → ℕ → K → Type 0) (ending : EncodeEnding) (source : S) (sink : K) (last_source : S) (last_sink : K) : Type 0 where
+pub record WritesAfter {S K : Type 0} (reads : S → Option (List ℕ) → S → Type 0) (written : K → Option (List ℕ)) (writes : K → List ℕ → ℕ → K → Type 0) (ending : InputEnding) (source : S) (sink : K) (last_source : S) (last_sink : K) : Type 0 where
   pub file : List ℕ
   pub read : IsReadWhole reads file source last_source
   pub wrote : WritesUpTo written writes file ending sink last_sink
@@ -103,9 +103,9 @@ pub record StopsPast {S K : Type 0} (reads : S → Option (List ℕ) → S → T
 -- comes after the last read; nothing is written for a file that is bad or could not be read, and if
 -- memory ran out, no read has failed
 abbrev pub ReadsThenWrites :
-    {S K : Type 0} → (S → Option (List ℕ) → S → Type 0) → (K → Option (List ℕ)) → (K → List ℕ → ℕ → K → Type 0) → EncodeEnding → S → K → S → K →
+    {S K : Type 0} → (S → Option (List ℕ) → S → Type 0) → (K → Option (List ℕ)) → (K → List ℕ → ℕ → K → Type 0) → InputEnding → S → K → S → K →
     Type 0
-ReadsThenWrites reads written writes Encoded source sink last_source last_sink = WritesAfter reads written writes Encoded source sink last_source last_sink
+ReadsThenWrites reads written writes Done source sink last_source last_sink = WritesAfter reads written writes Done source sink last_source last_sink
 ReadsThenWrites reads written writes (Bad found) source sink last_source last_sink =
     StopsPast reads found source sink last_source last_sink ⊎ WritesAfter reads written writes (Bad found) source sink last_source last_sink
 ReadsThenWrites reads written writes ReadFault source sink last_source last_sink = IsReadTorn reads source last_source × (last_sink ≡ sink)
@@ -115,7 +115,7 @@ ReadsThenWrites reads written writes Memory source sink last_source last_sink = 
 
 -- what was written up to the ending is the output of some file: the bytes that were left in the
 -- source, if it makes them known
-pub record EncodesFile (ending : EncodeEnding) (left before now : Option (List ℕ)) : Type 0 where
+pub record EncodesFile (ending : InputEnding) (left before now : Option (List ℕ)) : Type 0 where
   pub file : List ℕ
   pub is_left : IsKnownLeft left file
   pub encodes : Appended (Encodes file ending) before now

@@ -2,16 +2,16 @@
 ghost use Rattle.std.specs.Prelude.{◌≡◌, ℕ, List};
 ghost use Rattle.mcg6_encoder.specs.Files.{Encodes};
 ghost use Rattle.mcg6_reader.specs.declared.ending.BadLine.{BadLine};
-ghost use Rattle.mcg6_encoder.specs.declared.ending.EncodeEnding.TheVariants as ending;
+ghost use Rattle.mcg6_reader.specs.declared.ending.InputEnding.TheVariants as ending;
 
 /// The bytes of a graph file leave nothing open. It is not both encoded and bad; any two outputs of
 /// a file that is encoded are equal, and so are the line and the kind of the first error of one
 /// that is bad.
 pub fn one_encoding_law()
     ensures status { (file a b : List ℕ) (found : BadLine)
-        → Encodes file ending.Encoded a → Encodes file (ending.Bad found) b → ⊥ }
+        → Encodes file ending.Done a → Encodes file (ending.Bad found) b → ⊥ }
     ensures done { (file a b : List ℕ)
-        → Encodes file ending.Encoded a → Encodes file ending.Encoded b → a ≡ b }
+        → Encodes file ending.Done a → Encodes file ending.Done b → a ≡ b }
     ensures found { (file a b : List ℕ) (found other : BadLine)
         → Encodes file (ending.Bad found) a → Encodes file (ending.Bad other) b
         → (found.number ≡ other.number) × (found.kind ≡ other.kind) }

@@ -6,7 +6,7 @@
 //!
 //! Main definitions, in specs/: `IsBeneath` of `SimpleGraphs`; `IsEncoded` and `IsBadFile` of
 //! `Files`, exactly one of which holds for a file within the limit of bytes; `Encodes`, what is
-//! written up to each `EncodeEnding`; `ReadsThenWrites` of `Reads`, the reads and the writes in
+//! written up to each `InputEnding`; `ReadsThenWrites` of `Reads`, the reads and the writes in
 //! their order. Main promises: the output is what the file gives, in whatever pieces it came;
 //! nothing is written before the file was read to its end, nor for a bad file; an error of the
 //! source or the sink comes only if its count rose; a file has one text or one first error
@@ -17,7 +17,6 @@
 #![tactic(auto)]
 
 mod encoding;
-mod ending;
 mod laws;
 mod lines;
 mod reading;
@@ -26,7 +25,6 @@ mod text;
 
 // Passed on to the crates above.
 pub use encoding::encode;
-pub use ending::EncodeEnding;
 pub use laws::one_encoding_law;
 pub use mcg6_reader;
 pub use outside;

@@ -6,14 +6,13 @@ use Rattle.line_text.specs.declared.faults.FaultKind.{FaultKind}
 use Rattle.mcg6_top.specs.from_mcg6_reader.Lines.{IsClosedText}
 use Rattle.mcg6_top.proofs.from_mcg6_reader.LineCuts.{IsClosedText-append}
 use Rattle.mcg6_top.specs.from_mcg6_reader.declared.ending.BadLine.{BadLine}
-use Rattle.mcg6_top.specs.from_mcg6_reader.declared.ending.Ending.{Ending}
-use Rattle.mcg6_top.specs.from_mcg6_reader.declared.ending.Ending.TheVariants as ending
-use Rattle.mcg6_encoder.specs.declared.ending.EncodeEnding.{EncodeEnding}
-use Rattle.mcg6_encoder.specs.declared.ending.EncodeEnding.TheVariants as encoding
+use Rattle.mcg6_top.specs.from_mcg6_reader.declared.ending.InputEnding.{InputEnding}
+use Rattle.mcg6_top.specs.from_mcg6_reader.declared.ending.InputEnding.TheVariants as ending
+use Rattle.mcg6_top.specs.from_mcg6_reader.declared.ending.InputEnding.TheVariants as encoding
 use Rattle.mcg6_encoder.specs.from_outside.declared.explain.FailureReason.{FailureReason}
 use Rattle.mcg6_top.specs.Common.{text_of}
-use Rattle.mcg6_top.specs.declared.status.RunEnd.{RunEnd}
-use Rattle.mcg6_top.specs.declared.status.RunEnd.TheVariants.{Answered, Encoded}
+use Rattle.mcg6_top.specs.declared.status.ListRunEnding.{ListRunEnding}
+use Rattle.mcg6_top.specs.declared.status.ListRunEnding.TheVariants.{Answered, Encoded}
 use Rattle.front_words.specs.BadFiles.{BadFileSeen}
 use Rattle.front_words.specs.EmptyLines.{empty_line_in, empty_words}
 use Rattle.front_words.specs.ListMessages.{bad_line_text, bad_line_words, line_kept, list_dash_note, list_joint, unread_list_text}
@@ -27,15 +26,15 @@ use Rattle.front_words.specs.Programs.{name_of}
 use Rattle.front_words.specs.Unmatched.{help_beyond, meant, meant_text, mismatch_text, some_reason_text, unless_help, unmatched_text}
 use Rattle.front_words.specs.Unread.{dash_note, unread_noted_text}
 use Rattle.front_words.specs.from_command_table.Pages.{command_line, command_lines}
-use Rattle.front_words.specs.from_command_table.Reasons.{Reason, Unknown, TooMany, TooFew, Wrong, why_unmatched}
+use Rattle.front_words.specs.from_command_table.Reasons.{Mismatch, Unknown, TooMany, TooFew, Wrong, why_unmatched}
 use Rattle.front_words.specs.from_command_table.Rows.{Row, Word, word_meaning, word_need}
 use Rattle.front_words.specs.from_command_table.Table.{file, form_of, one_of, orders, row_with, rows_lines, rows_notes, skip_file, what}
 unfoldable use Rattle.front_words.specs.from_command_table.Table.{list_rows, list_usage_text}
 use Rattle.front_words.specs.declared.programs.Program.TheVariants.{Mcg6}
 use Rattle.mcg6_front_top.specs.Words.{beginning_of, ending_words, file_words, list_words, lost_words, message_words, program, run_words, skipped_words, unwritten_words}
 use Rattle.mcg6_front_top.specs.declared.clues.Clues.{Clues}
-use Rattle.mcg6_front_top.specs.declared.ending.Message.{Message}
-use Rattle.mcg6_front_top.specs.declared.ending.Message.TheVariants as message
+use Rattle.mcg6_front_top.specs.declared.ending.ListMessage.{ListMessage}
+use Rattle.mcg6_front_top.specs.declared.ending.ListMessage.TheVariants as message
 
 -- a line feed ends the text
 abbrev Ends : List ℕ → Type 0
@@ -81,7 +80,7 @@ bad-file-ends name bad =
     (behind (what_text name bad) _ (behind (file_note bad.file_kind bad.kind bad.beginning bad.sizes (some_line bad.text)) _ (shown-line name bad.line (some_line bad.text)))))
 
 -- words that match no row
-reason-ends : (name command : List ℕ) (reason : Reason) → Ends (some_reason_text name command reason)
+reason-ends : (name command : List ℕ) (reason : Mismatch) → Ends (some_reason_text name command reason)
 reason-ends name command Unknown =
     behind name _ (behind (codes ": no command ") _ (behind (shown 60 command) _ (behind (codes "; ") _ (behind name _ (codes " --help lists them", refl)))))
 reason-ends name command TooMany = behind name _ (behind (codes ": too many arguments for ") _ (behind (shown 60 command) _ feed))
@@ -89,7 +88,7 @@ reason-ends name command (TooFew missing) =
     behind name _ (behind (codes ": ") _ (behind (shown 60 command) _ (behind (codes " needs ") _ (behind (word_need missing) _ feed))))
 reason-ends name command (Wrong wanted) = behind name _ (behind (codes ": ") _ (behind (word_meaning wanted) _ feed))
 
-mismatch-closed : (name command : List ℕ) (reason : Option Reason) → IsClosedText (mismatch_text name command reason)
+mismatch-closed : (name command : List ℕ) (reason : Option Mismatch) → IsClosedText (mismatch_text name command reason)
 mismatch-closed name command None = inl refl
 mismatch-closed name command (Some reason) = inr (reason-ends name command reason)
 
@@ -161,15 +160,15 @@ unwritten-closed : (is_abandoned : Bool) → IsClosedText (unwritten_words is_ab
 unwritten-closed true = inl refl
 unwritten-closed false = inr lost-ends
 
-list-closed : (name : Option (List ℕ)) (ended : Ending) (clues : Clues) → IsClosedText (list_words name ended clues)
+list-closed : (name : Option (List ℕ)) (ended : InputEnding) (clues : Clues) → IsClosedText (list_words name ended clues)
 list-closed name ending.Done clues = inl refl
 list-closed name (ending.Bad found) clues = inr (bad-line-ends program found.number found.kind found.text.items)
 list-closed name ending.ReadFault clues = inr (unread-list-ends program name clues.reason)
 list-closed name ending.WriteFault clues = unwritten-closed clues.is_abandoned
 list-closed name ending.Memory clues = inr (codes "mcg6: memory ran out; what was written is of the first lines alone", refl)
 
-file-closed : (name : List ℕ) (ended : EncodeEnding) (clues : Clues) → IsClosedText (file_words name ended clues)
-file-closed name encoding.Encoded clues = inl refl
+file-closed : (name : List ℕ) (ended : InputEnding) (clues : Clues) → IsClosedText (file_words name ended clues)
+file-closed name encoding.Done clues = inl refl
 file-closed name (encoding.Bad found) clues = inr (bad-file-ends program (record {
   name = name;
   file_kind = Graph;
@@ -189,17 +188,17 @@ skipped-closed (found ∷ skipped) =
     IsClosedText-append (bad_line_text program found.number found.kind found.text.items) (skipped_words skipped)
     (inr (bad-line-ends program found.number found.kind found.text.items)) (skipped-closed skipped)
 
-ending-closed : (end : RunEnd) (clues : Clues) → IsClosedText (ending_words end clues)
+ending-closed : (end : ListRunEnding) (clues : Clues) → IsClosedText (ending_words end clues)
 ending-closed (Answered list end) clues =
     IsClosedText-append (skipped_words end.skipped.items) (list_words (text_of list.file) end.ending clues)
     (skipped-closed end.skipped.items) (list-closed (text_of list.file) end.ending clues)
 ending-closed (Encoded file ending) clues = file-closed file.now ending clues
 
-run-closed : (words : List (List ℕ)) (end : Option RunEnd) (clues : Clues) → IsClosedText (run_words words end clues)
+run-closed : (words : List (List ℕ)) (end : Option ListRunEnding) (clues : Clues) → IsClosedText (run_words words end clues)
 run-closed words None clues = unmatched-closed words
 run-closed words (Some end) clues = ending-closed end clues
 
-pub message-closed : (words : List (List ℕ)) (said : Message) (clues : Clues) → IsClosedText (message_words words said clues)
+pub message-closed : (words : List (List ℕ)) (said : ListMessage) (clues : Clues) → IsClosedText (message_words words said clues)
 message-closed words message.Nothing clues = inl refl
 message-closed words message.Lost clues = inr lost-ends
 message-closed words (message.Ending end) clues = run-closed words end clues

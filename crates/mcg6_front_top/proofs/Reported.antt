@@ -11,11 +11,11 @@ use Rattle.mcg6_front_top.specs.Fronts.{ListFronts}
 use Rattle.mcg6_front_top.specs.Installed.{EndsOn, nothing_said}
 use Rattle.mcg6_front_top.specs.Words.{message_words}
 use Rattle.mcg6_front_top.specs.declared.clues.Clues.{Clues}
-use Rattle.mcg6_front_top.specs.declared.ending.Message.{Message}
+use Rattle.mcg6_front_top.specs.declared.ending.ListMessage.{ListMessage}
 use Rattle.mcg6_front_top.proofs.MessageLines.{message-closed}
 use Rattle.mcg6_front_top.proofs.SaidWhole.{whole-printed}
 
-abbrev FrontRun : List (List ℕ) → (is_quiet is_abandoned : Bool) → ListStatus → Message → (first last : ReadState) → (before now : PrintState) → Type 0
+abbrev FrontRun : List (List ℕ) → (is_quiet is_abandoned : Bool) → ListStatus → ListMessage → (first last : ReadState) → (before now : PrintState) → Type 0
 FrontRun words is_quiet is_abandoned status said first last before now =
     ListFronts (λ (s : ReadState). None) (λ (s : ReadState). s.faults) HasTaken (λ (k : PrintState). Some k.printed) HasPrinted (λ (k : PrintState). k.faults) words is_quiet is_abandoned status said first last before now
 
@@ -23,7 +23,7 @@ abbrev IsSaidOn : List ℕ → (before now : LineState) → Type 0
 IsSaidOn text before now = IsSaid (λ (k : LineState). None) HasSaid (λ (k : LineState). k.faults) text before now
 
 -- the program, of one of its runs
-ends_on : (words : List (List ℕ)) (is_quiet is_abandoned : Bool) (status : ListStatus) (said : Message) (clues : Clues) (source : ReadState) (sink : PrintState) (errors : LineState) →
+ends_on : (words : List (List ℕ)) (is_quiet is_abandoned : Bool) (status : ListStatus) (said : ListMessage) (clues : Clues) (source : ReadState) (sink : PrintState) (errors : LineState) →
     FrontRun words is_quiet is_abandoned status said (nothing_read (file_named_by words)) source nothing_printed sink → IsSaidOn (message_words words said clues) nothing_said errors →
     EndsOn words (code_of status) source sink errors
 ends_on words is_quiet is_abandoned status said clues source sink errors fronts says = record {
@@ -41,7 +41,7 @@ ends_on words is_quiet is_abandoned status said clues source sink errors fronts 
 }
 
 -- the same, of what is equal to it
-pub ends_from : (words given : List (List ℕ)) (is_quiet is_abandoned : Bool) (status : ListStatus) (said : Message) (first last : ReadState) (before now sink : PrintState) (code : ℕ) (out : ℕ × Option ReadState) → words ≡ given →
+pub ends_from : (words given : List (List ℕ)) (is_quiet is_abandoned : Bool) (status : ListStatus) (said : ListMessage) (first last : ReadState) (before now sink : PrintState) (code : ℕ) (out : ℕ × Option ReadState) → words ≡ given →
     first ≡ nothing_read (file_named_by words) → before ≡ nothing_printed → sink ≡ now → out ≡ (code, Some last) → code ≡ code_of status →
     (spoken : List (List ℕ)) (clues : Clues) (fresh spoke errors : LineState) → spoken ≡ words → fresh ≡ nothing_said → errors ≡ spoke → IsSaidOn (message_words spoken said clues) fresh spoke →
     FrontRun words is_quiet is_abandoned status said first last before now → IsSomeAnd out.1 (λ source. EndsOn given out.0 source sink errors)

@@ -4,14 +4,14 @@ use Rattle.std.specs.Prelude.{◌≡◌, ℕ, List, [], Bool, true, false, Optio
 use Rattle.mcg6_encoder.specs.from_outside.Common.{HasSaid, LineState, PrintState, ReadState}
 use Rattle.mcg6_top.specs.Common.{RowGives, code_of, command_of, file_named_by, status_in}
 use Rattle.mcg6_top.specs.declared.status.ListStatus.{ListStatus}
-use Rattle.mcg6_top.specs.declared.status.RunEnd.{RunEnd}
+use Rattle.mcg6_top.specs.declared.status.ListRunEnding.{ListRunEnding}
 use Rattle.front_words.specs.Answers.{answer_of}
 use Rattle.front_words.specs.Saying.{IsSaid, WritesWhole}
 use Rattle.front_words.specs.declared.programs.Program.TheVariants.{Mcg6}
 use Rattle.mcg6_front_top.specs.Words.{message_words}
 use Rattle.mcg6_front_top.specs.declared.clues.Clues.{Clues}
-use Rattle.mcg6_front_top.specs.declared.ending.Message.{Message}
-use Rattle.mcg6_front_top.specs.declared.ending.Message.TheVariants.{Ending, Nothing}
+use Rattle.mcg6_front_top.specs.declared.ending.ListMessage.{ListMessage}
+use Rattle.mcg6_front_top.specs.declared.ending.ListMessage.TheVariants.{Ending, Nothing}
 
 -- a stream to which nothing was said yet
 abbrev pub nothing_said : LineState
@@ -27,8 +27,8 @@ pub record EndsOn (words : List (List ℕ)) (code : ℕ) (source : ReadState) (s
   pub opened : answer_of Mcg6 words ≡ None → source.name ≡ file_named_by words
   pub gives : answer_of Mcg6 words ≡ None → RowGives (command_of words) status source.read sink.printed
   pub is_quiet : Bool
-  pub message : Message
-  pub speaks : answer_of Mcg6 words ≡ None → is_quiet ≡ false → (ending : Option RunEnd) × (message ≡ Ending ending) × (status ≡ status_in ending)
+  pub message : ListMessage
+  pub speaks : answer_of Mcg6 words ≡ None → is_quiet ≡ false → (ending : Option ListRunEnding) × (message ≡ Ending ending) × (status ≡ status_in ending)
   pub quiet : is_quiet ≡ true → message ≡ Nothing
   pub clues : Clues
   pub said : IsSaid (λ (k : LineState). None) HasSaid (λ (k : LineState). k.faults) (message_words words message clues) nothing_said errors

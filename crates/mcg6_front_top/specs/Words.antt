@@ -2,16 +2,15 @@
 -- Stated by: mcg6_front_top.
 use Rattle.std.specs.Prelude.{ℕ, ◌==◌, List, [], ◌∷◌, ◌++◌, codes, Bool, if◌then◌else◌, Option, Some, None}
 use Rattle.mcg6_top.specs.from_mcg6_reader.declared.ending.BadLine.{BadLine}
-use Rattle.mcg6_top.specs.from_mcg6_reader.declared.ending.Ending.{Ending}
-use Rattle.mcg6_top.specs.from_mcg6_reader.declared.ending.Ending.TheVariants.{Done, Bad, ReadFault, WriteFault, Memory}
-use Rattle.mcg6_encoder.specs.declared.ending.EncodeEnding.{EncodeEnding}
-use Rattle.mcg6_encoder.specs.declared.ending.EncodeEnding.TheVariants as encoding
+use Rattle.mcg6_top.specs.from_mcg6_reader.declared.ending.InputEnding.{InputEnding}
+use Rattle.mcg6_top.specs.from_mcg6_reader.declared.ending.InputEnding.TheVariants.{Done, Bad, ReadFault, WriteFault, Memory}
+use Rattle.mcg6_top.specs.from_mcg6_reader.declared.ending.InputEnding.TheVariants as encoding
 use Rattle.mcg6_top.specs.Common.{text_of}
-use Rattle.mcg6_top.specs.declared.status.RunEnd.{RunEnd}
-use Rattle.mcg6_top.specs.declared.status.RunEnd.TheVariants.{Answered, Encoded}
+use Rattle.mcg6_top.specs.declared.status.ListRunEnding.{ListRunEnding}
+use Rattle.mcg6_top.specs.declared.status.ListRunEnding.TheVariants.{Answered, Encoded}
 use Rattle.mcg6_front_top.specs.declared.clues.Clues.{Clues}
-use Rattle.mcg6_front_top.specs.declared.ending.Message.{Message}
-use Rattle.mcg6_front_top.specs.declared.ending.Message.TheVariants as message
+use Rattle.mcg6_front_top.specs.declared.ending.ListMessage.{ListMessage}
+use Rattle.mcg6_front_top.specs.declared.ending.ListMessage.TheVariants as message
 use Rattle.front_words.specs.from_refusals.declared.file_kind.FileKind.TheVariants.{Graph}
 use Rattle.front_words.specs.ListMessages.{bad_line_text, unread_list_text}
 use Rattle.front_words.specs.Messages.{bad_file_text, unread_text}
@@ -36,7 +35,7 @@ memory_words = codes "mcg6: memory ran out; what was written is of the first lin
 
 -- what is said of a list that ended so, in the file of that name, if it has one; nothing if each
 -- line was answered
-abbrev pub list_words : (name : Option (List ℕ)) → Ending → Clues → List ℕ
+abbrev pub list_words : (name : Option (List ℕ)) → InputEnding → Clues → List ℕ
 list_words name Done clues = []
 list_words name (Bad found) clues = bad_line_text program found.number found.kind found.text.items
 list_words name ReadFault clues = unread_list_text program name clues.reason
@@ -66,8 +65,8 @@ bad_graph_words name found =
 
 -- what is said of the graph file of that name, whose encoding ended so; nothing where its graph6
 -- text was written
-abbrev pub file_words : (name : List ℕ) → EncodeEnding → Clues → List ℕ
-file_words name encoding.Encoded clues = []
+abbrev pub file_words : (name : List ℕ) → InputEnding → Clues → List ℕ
+file_words name encoding.Done clues = []
 file_words name (encoding.Bad found) clues = bad_graph_words name found
 file_words name encoding.ReadFault clues = unread_text program name clues.reason
 file_words name encoding.WriteFault clues = unwritten_words clues.is_abandoned
@@ -79,18 +78,18 @@ skipped_words [] = []
 skipped_words (found ∷ skipped) = bad_line_text program found.number found.kind found.text.items ++ skipped_words skipped
 
 -- what is said of a run that ended so: of a list the lines that were skipped first
-abbrev pub ending_words : RunEnd → Clues → List ℕ
+abbrev pub ending_words : ListRunEnding → Clues → List ℕ
 ending_words (Answered list end) clues = skipped_words end.skipped.items ++ list_words (text_of list.file) end.ending clues
 ending_words (Encoded file ending) clues = file_words file.now ending clues
 
 -- what is said of a run of these words that ended so, or of words that match no row
-abbrev pub run_words : (words : List (List ℕ)) → Option RunEnd → Clues → List ℕ
+abbrev pub run_words : (words : List (List ℕ)) → Option ListRunEnding → Clues → List ℕ
 run_words words None clues = unmatched_text Mcg6 words
 run_words words (Some end) clues = ending_words end clues
 
 -- what is said of a run of these words: of an answer that could not be written whole, or of this
 -- end
-abbrev pub message_words : (words : List (List ℕ)) → Message → Clues → List ℕ
+abbrev pub message_words : (words : List (List ℕ)) → ListMessage → Clues → List ℕ
 message_words words message.Nothing clues = []
 message_words words message.Lost clues = lost_words
 message_words words (message.Ending end) clues = run_words words end clues

@@ -6,17 +6,17 @@ ghost use Rattle.mcg6_front_top.specs.Words.{message_words};
 use crate::clues::Clues;
 use crate::speaking::{say_ending, say_lost};
 use mcg6_encoder::outside::Sink;
-use mcg6_top::{CommandLine, ListStatus, RunEnd};
+use mcg6_top::{CommandLine, ListRunEnding, ListStatus};
 
 /// What is to be said of a run, for a person.
 #[derive(Drop)]
-pub enum Message<'a> {
+pub enum ListMessage<'a> {
     /// Nothing.
     Nothing,
     /// The answer to words that are answered at once could not be written whole.
     Lost,
     /// What this end means; with none the words matched no row.
-    Ending { end: Option<RunEnd<'a>> },
+    Ending { end: Option<ListRunEnding<'a>> },
 }
 
 /// How a run ended, with what is to be said of it: nothing was said yet, also not of the bad lines
@@ -26,7 +26,7 @@ pub struct ListFrontEnding<'a, 'b> {
     /// The status.
     pub status: ListStatus,
     /// What is to be said.
-    pub message: Message<'a>,
+    pub message: ListMessage<'a>,
     /// The words of the command.
     pub line: &'b CommandLine<'a>,
     /// What is known of the faults of the run.
@@ -36,17 +36,17 @@ pub struct ListFrontEnding<'a, 'b> {
 impl<'a, 'b> ListFrontEnding<'a, 'b> {
     /// Says what is to be said, up to the first fault of the sink. Takes no memory.
     pub fn say<E: Sink>(&self, errors: &mut E)
-        ensures nothing { self.now.message ≡ Message.Nothing → errors.new ≡ errors.old }
+        ensures nothing { self.now.message ≡ ListMessage.Nothing → errors.new ≡ errors.old }
         ensures says { IsSaid E.written E.writes E.faults
             (message_words self.now.line.now self.now.message self.now.clues)
             errors.old errors.new }
     {
         match &self.message {
-            Message::Nothing => {}
-            Message::Lost => {
+            ListMessage::Nothing => {}
+            ListMessage::Lost => {
                 let _ = say_lost(errors);
             }
-            Message::Ending { end } => {
+            ListMessage::Ending { end } => {
                 let _ = say_ending(errors, self.line, end, self.clues);
             }
         }

@@ -3,38 +3,38 @@ ghost use Rattle.std.specs.Prelude.{◌≡◌, ◌⊎◌, true, false};
 ghost use Rattle.mcg6_front_top.specs.Fronts.{ListFronts};
 
 use crate::clues::Clues;
-use crate::ending::{ListFrontEnding, Message};
+use crate::ending::{ListFrontEnding, ListMessage};
 use crate::speaking::status_in;
 use front_words::{Program, answer, answer_of};
 use mcg6_encoder::outside::{Inlet, Outlet};
-use mcg6_top::{CommandLine, ListStatus, RunEnd, run_to_ending};
+use mcg6_top::{CommandLine, ListRunEnding, ListStatus, run_to_ending};
 use std::alloc::Global;
 
 // What is to be said of an answer: that it could not be written whole, unless it is to be quiet or
 // nobody reads the answer any more.
-fn message_on_answer<'a>(status: ListStatus, is_quiet: bool, is_abandoned: bool) -> Message<'a>
-    ensures quiet { is_quiet ≡ true → result ≡ Message.Nothing }
+fn message_on_answer<'a>(status: ListStatus, is_quiet: bool, is_abandoned: bool) -> ListMessage<'a>
+    ensures quiet { is_quiet ≡ true → result ≡ ListMessage.Nothing }
     ensures quietly { (status ≡ ListStatus.Done) ⊎ (is_abandoned ≡ true) →
-        result ≡ Message.Nothing }
+        result ≡ ListMessage.Nothing }
     ensures lost { status ≡ ListStatus.WriteFault → is_abandoned ≡ false → is_quiet ≡ false →
-        result ≡ Message.Lost }
+        result ≡ ListMessage.Lost }
 {
     if matches!(status, ListStatus::WriteFault) && !is_quiet && !is_abandoned {
-        Message::Lost
+        ListMessage::Lost
     } else {
-        Message::Nothing
+        ListMessage::Nothing
     }
 }
 
 // What is to be said of a run that ended so: what that means, unless it is to be quiet.
-fn message_on_run<'a>(end: Option<RunEnd<'a>>, is_quiet: bool) -> Message<'a>
-    ensures quiet { is_quiet ≡ true → result ≡ Message.Nothing }
-    ensures loud { is_quiet ≡ false → result ≡ Message.Ending end.entry }
+fn message_on_run<'a>(end: Option<ListRunEnding<'a>>, is_quiet: bool) -> ListMessage<'a>
+    ensures quiet { is_quiet ≡ true → result ≡ ListMessage.Nothing }
+    ensures loud { is_quiet ≡ false → result ≡ ListMessage.Ending end.entry }
 {
     if is_quiet {
-        Message::Nothing
+        ListMessage::Nothing
     } else {
-        Message::Ending { end }
+        ListMessage::Ending { end }
     }
 }
 
@@ -42,8 +42,8 @@ fn message_on_run<'a>(end: Option<RunEnd<'a>>, is_quiet: bool) -> Message<'a>
 /// what is to be said of it, unless it is to be quiet. Words that ask for the usage or the version
 /// are answered on the sink, and nothing is read.
 ///
-/// Nothing is said yet: `ListFrontEnding::say` does that, which takes the sink for it. What the call
-/// makes of source and sink is `ListFronts`, a record with a line on each of its fields.
+/// Nothing is said yet: `ListFrontEnding::say` does that, which takes the sink for it. What the
+/// call makes of source and sink is `ListFronts`, a record with a line on each of its fields.
 pub fn run_list_front<'a, 'b, S: Inlet, K: Outlet>(
     alloc: Global,
     line: &'b CommandLine<'a>,

@@ -8,7 +8,7 @@ ghost use Rattle.mcg6_front_top.specs.Words.{message_words};
 
 use crate::ending::ListFrontEnding;
 use crate::fronting::run_list_front;
-use front_words::arguments::{Arguments, Refusal, read_arguments};
+use front_words::arguments::{ArgumentFault, Arguments, read_arguments};
 use front_words::{is_quiet, say_unread_arguments};
 use mcg6_encoder::outside::{InSource, LineSink, OutSink, Sink, TracedReader};
 use mcg6_top::CommandLine;
@@ -16,9 +16,9 @@ use std::rt::{Env, Files};
 
 /// How the program ended, with what the runtime gave and what it took.
 #[derive(Drop)]
-pub struct ProgramEnd<'a, R: Files + Input + Print, E: Print> {
+pub struct EndedListFront<'a, R: Files + Input + Print, E: Print> {
     /// The words of the command line, with what the runtime gave, or why they were not read.
-    pub read: Result<Arguments, Refusal>,
+    pub read: Result<Arguments, ArgumentFault>,
     /// The exit status.
     pub code: u8,
     /// The file that was opened, or the standard input, after the run, with the bytes that it gave.
@@ -47,7 +47,7 @@ fn said_code<E: Sink>(ending: ListFrontEnding<'_, '_>, errors: &mut E) -> u8
 pub fn program<'a, R: Files + Input + Print + Env + AllocGlobal, E: Print>(
     runtime: &'a R,
     stream: &'a E,
-) -> ProgramEnd<'a, R, E>
+) -> EndedListFront<'a, R, E>
     ensures ends { IfOk result.read (λ read. IsSomeAnd result.source
         (λ source. EndsOn read.asked.words result.code source result.sink result.errors)) }
     ensures unopened { IfErr result.read (λ _. result.source ≡ None) }
@@ -72,7 +72,7 @@ pub fn program<'a, R: Files + Input + Print + Env + AllocGlobal, E: Print>(
             (refusal.code(), None)
         }
     };
-    ProgramEnd {
+    EndedListFront {
         read,
         code,
         source,

@@ -6,7 +6,7 @@ ghost use Rattle.mcg6_encoder.specs.from_outside.Common.{HasSaid, LineState};
 ghost use Rattle.mcg6_top.specs.from_mcg6_reader.Lines.{IsClosedText};
 ghost use Rattle.mcg6_front_top.specs.Words.{message_words};
 ghost use Rattle.mcg6_front_top.specs.declared.clues.Clues.{Clues};
-ghost use Rattle.mcg6_front_top.specs.declared.ending.Message.{Message};
+ghost use Rattle.mcg6_front_top.specs.declared.ending.ListMessage.{ListMessage};
 ghost use Rattle.front_words.specs.from_command_table.Rows.{matches_a_row};
 ghost use Rattle.front_words.specs.from_command_table.Table.{list_rows};
 ghost use Rattle.mcg6_top.specs.Common.{command_of};
@@ -19,13 +19,13 @@ pub fn list_table_law()
 
 /// A message ends with a line feed, or it is empty.
 pub fn message_law()
-    ensures { (words : List (List ℕ)) (said : Message) (clues : Clues) →
+    ensures { (words : List (List ℕ)) (said : ListMessage) (clues : Clues) →
         IsClosedText (message_words words said clues) }
 {}
 
 /// Of a text that ends with a line feed, or is empty, and was said whole to a stream of lines that
 /// held nothing, the stream holds nothing: it took just the text.
-pub fn said_law()
+pub fn said_lines_law()
     ensures { (text : List ℕ) (first last : LineState) → WritesWhole HasSaid text first last →
         IsClosedText text → first.held ≡ [] →
         (last.held ≡ []) × (last.printed ≡ first.printed ++ text) }

@@ -25,7 +25,7 @@ mod skipping;
 mod speaking;
 
 // Passed on to the crates above.
-pub use ending::{ListFrontEnding, Message};
+pub use ending::{ListFrontEnding, ListMessage};
 pub use fronting::run_list_front;
-pub use installed::{ProgramEnd, program};
-pub use laws::{list_table_law, message_law, said_law};
+pub use installed::{EndedListFront, program};
+pub use laws::{list_table_law, message_law, said_lines_law};

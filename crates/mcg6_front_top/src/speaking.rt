@@ -12,16 +12,15 @@ use front_words::{
     BadFile, Program, Said, say_bad_file, say_bad_line, say_bytes, say_unmatched, say_unread,
     say_unread_list,
 };
-use mcg6_encoder::EncodeEnding;
-use mcg6_encoder::mcg6_reader::{BadLine, Ending};
+use mcg6_encoder::mcg6_reader::{BadLine, InputEnding};
 use mcg6_encoder::outside::{Sink, SinkFailed};
-use mcg6_top::{CommandLine, ListEnd, ListStatus, RunEnd, status_of};
+use mcg6_top::{CommandLine, ListEnding, ListRunEnding, ListStatus, status_of};
 
 /// The name of the program.
 pub const PROGRAM: &str = "mcg6";
 
 /// The status of a run with that end; with none the words matched no row.
-pub fn status_in(end: &Option<RunEnd<'_>>) -> ListStatus
+pub fn status_in(end: &Option<ListRunEnding<'_>>) -> ListStatus
     ensures { result ≡ status_in end.now }
 {
     match end {
@@ -42,15 +41,19 @@ fn say_nothing<E: Sink>(_errors: &mut E) -> Said
 pub fn say_ending<E: Sink>(
     errors: &mut E,
     line: &CommandLine<'_>,
-    end: &Option<RunEnd<'_>>,
+    end: &Option<ListRunEnding<'_>>,
     clues: Clues,
 ) -> Said
     ensures { Says E.written E.writes E.faults (run_words line.now end.now clues) result errors.old
         errors.new }
 {
     match end {
-        Some(RunEnd::Answered { list, end }) => say_skipping_ending(errors, list.file, end, clues),
-        Some(RunEnd::Encoded { file, ending }) => say_file_ending(errors, file, ending, clues),
+        Some(ListRunEnding::Answered { list, end }) => say_skipping_ending(
+            errors, list.file, end, clues,
+        ),
+        Some(ListRunEnding::Encoded { file, ending }) => say_file_ending(
+            errors, file, ending, clues,
+        ),
         None => say_unmatched(errors, Program::Mcg6, line.words()),
     }
 }
@@ -60,7 +63,7 @@ pub fn say_ending<E: Sink>(
 fn say_skipping_ending<E: Sink>(
     errors: &mut E,
     name: Option<&str>,
-    end: &ListEnd,
+    end: &ListEnding,
     clues: Clues,
 ) -> Said
     ensures { Says E.written E.writes E.faults
@@ -74,16 +77,16 @@ fn say_skipping_ending<E: Sink>(
 }
 
 // Says how the encoding of the graph file of that name ended; nothing where its text was written.
-fn say_file_ending<E: Sink>(errors: &mut E, name: &str, ending: &EncodeEnding, clues: Clues) -> Said
+fn say_file_ending<E: Sink>(errors: &mut E, name: &str, ending: &InputEnding, clues: Clues) -> Said
     ensures { Says E.written E.writes E.faults (file_words name.now ending.now clues) result
         errors.old errors.new }
 {
     match ending {
-        EncodeEnding::Encoded => say_nothing(errors),
-        EncodeEnding::Bad { found } => say_bad_graph(errors, name, found),
-        EncodeEnding::ReadFault => say_unread(errors, PROGRAM, name, clues.reason),
-        EncodeEnding::WriteFault => say_unwritten(errors, clues.is_abandoned),
-        EncodeEnding::Memory => say_nothing_written(errors),
+        InputEnding::Done => say_nothing(errors),
+        InputEnding::Bad { found } => say_bad_graph(errors, name, found),
+        InputEnding::ReadFault => say_unread(errors, PROGRAM, name, clues.reason),
+        InputEnding::WriteFault => say_unwritten(errors, clues.is_abandoned),
+        InputEnding::Memory => say_nothing_written(errors),
     }
 }
 
@@ -124,20 +127,20 @@ fn say_nothing_written<E: Sink>(errors: &mut E) -> Said
 fn say_list_ending<E: Sink>(
     errors: &mut E,
     name: Option<&str>,
-    ending: &Ending,
+    ending: &InputEnding,
     clues: Clues,
 ) -> Said
     ensures { Says E.written E.writes E.faults (list_words (text_of name.entry) ending.now clues) result
         errors.old errors.new }
 {
     match ending {
-        Ending::Done => say_nothing(errors),
-        Ending::Bad { found } => {
+        InputEnding::Done => say_nothing(errors),
+        InputEnding::Bad { found } => {
             say_bad_line(errors, PROGRAM, found.number, found.kind, &found.text)
         }
-        Ending::ReadFault => say_unread_list(errors, PROGRAM, name, clues.reason),
-        Ending::WriteFault => say_unwritten(errors, clues.is_abandoned),
-        Ending::Memory => say_out_of_memory(errors),
+        InputEnding::ReadFault => say_unread_list(errors, PROGRAM, name, clues.reason),
+        InputEnding::WriteFault => say_unwritten(errors, clues.is_abandoned),
+        InputEnding::Memory => say_out_of_memory(errors),
     }
 }
 

@@ -3,8 +3,8 @@
 use Rattle.std.proofs.Common.{◌≡◌, inl, inr, ℕ, suc, ◌+◌, List, [], ◌∷◌, ◌++◌, length, take, refl, sym, subst, ◌∙◌, ap, arith, append_assoc, length-append, append-nil, Option, Some, None}
 use Rattle.line_text.specs.declared.faults.FaultKind.{FaultKind}
 use Rattle.mcg6_reader.specs.declared.ending.BadLine.{BadLine}
-use Rattle.mcg6_reader.specs.declared.ending.Ending.{Ending}
-use Rattle.mcg6_reader.specs.declared.ending.Ending.TheVariants.{Done, Bad, ReadFault, WriteFault, Memory}
+use Rattle.mcg6_reader.specs.declared.ending.InputEnding.{InputEnding}
+use Rattle.mcg6_reader.specs.declared.ending.InputEnding.TheVariants.{Done, Bad, ReadFault, WriteFault, Memory}
 use Rattle.mcg6_reader.specs.declared.place.LinePlace.{LinePlace}
 use Rattle.mcg6_reader.specs.Common.{place_after, place_behind, LineTold, NamesBad, AllTold, BeginningTold, WholeTold, HasBadLine, LacksLine, ToldToBad, CutShort, GivesOutput}
 
@@ -121,7 +121,7 @@ WholeTold-behind tells lacks n xs ys a b told behind = record {
 -- lines that have been processed, and the output of the lines after them
 pub GivesOutput-behind :
     {A : Type 0} (tells : LinePlace → List ℕ → List A → Type 0) (bad : LinePlace → List ℕ → FaultKind → Type 0) (lacks : ℕ → Option FaultKind) (n : LinePlace)
-    (xs ys : List (List ℕ)) (a b : List A) (ending : Ending) →
+    (xs ys : List (List ℕ)) (a b : List A) (ending : InputEnding) →
     AllTold tells n xs a → GivesOutput tells bad lacks (place_behind n xs) ys ending b → GivesOutput tells bad lacks n (xs ++ ys) ending (a ++ b)
 GivesOutput-behind tells bad lacks n xs ys a b Done told behind = WholeTold-behind tells lacks n xs ys a b told behind
 GivesOutput-behind tells bad lacks n xs ys a b (Bad found) told behind = ToldToBad-behind tells bad lacks n xs ys found a b told behind

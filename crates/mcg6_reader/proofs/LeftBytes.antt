@@ -4,7 +4,7 @@ use Rattle.std.proofs.Common.{◌≡◌, ℕ, List, [], ◌++◌, refl, sym, sub
 use Rattle.outside.specs.Common.{prepended, IsAtEnd}
 use Rattle.line_text.specs.declared.faults.FaultKind.{FaultKind}
 use Rattle.mcg6_reader.specs.declared.ending.BadLine.{BadLine}
-use Rattle.mcg6_reader.specs.declared.ending.Ending.{Ending}
+use Rattle.mcg6_reader.specs.declared.ending.InputEnding.{InputEnding}
 use Rattle.mcg6_reader.specs.declared.place.LinePlace.{LinePlace}
 use Rattle.mcg6_reader.specs.Common.{lines_of, first_place, GivesOutput, Reported, Added, Appended, IsKnownLeft, TellsList}
 
@@ -44,7 +44,7 @@ piece_read whole held piece before now next left taken =
 
 -- if the source makes known what is left, the list is that
 module _
-    (tells : LinePlace → List ℕ → List ℕ → Type 0) (bad : LinePlace → List ℕ → FaultKind → Type 0) (lacks : ℕ → Option FaultKind) (ending : Ending)
+    (tells : LinePlace → List ℕ → List ℕ → Type 0) (bad : LinePlace → List ℕ → FaultKind → Type 0) (lacks : ℕ → Option FaultKind) (ending : InputEnding)
     (left before now : Option (List ℕ)) (bytes : List ℕ)
     (reports : LinePlace → List ℕ → List BadLine → Type 0) (founds_before founds_now : List BadLine)
     (list : TellsList tells bad lacks reports ending left before now founds_before founds_now) (is : left ≡ Some bytes) where

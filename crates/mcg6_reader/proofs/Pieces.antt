@@ -5,7 +5,7 @@ use Rattle.outside.specs.Common.{most_line}
 use Rattle.line_text.specs.declared.faults.FaultKind.{FaultKind}
 use Rattle.line_text.specs.declared.faults.FaultKind.TheVariants.{Limit}
 use Rattle.mcg6_reader.specs.declared.ending.BadLine.{BadLine}
-use Rattle.mcg6_reader.specs.declared.ending.Ending.TheVariants.{Bad}
+use Rattle.mcg6_reader.specs.declared.ending.InputEnding.TheVariants.{Bad}
 use Rattle.mcg6_reader.specs.declared.ending.ListStop.{ListStop}
 use Rattle.mcg6_reader.specs.declared.ending.ListStop.TheVariants as stop
 use Rattle.mcg6_reader.specs.declared.place.LinePlace.{LinePlace}

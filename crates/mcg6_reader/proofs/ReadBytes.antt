@@ -5,8 +5,8 @@ use Rattle.outside.specs.Common.{bytes_given}
 use Rattle.outside.proofs.Pieces.{appended-nil}
 use Rattle.line_text.specs.declared.faults.FaultKind.{FaultKind}
 use Rattle.mcg6_reader.specs.declared.ending.BadLine.{BadLine}
-use Rattle.mcg6_reader.specs.declared.ending.Ending.{Ending}
-use Rattle.mcg6_reader.specs.declared.ending.Ending.TheVariants.{ReadFault, Memory}
+use Rattle.mcg6_reader.specs.declared.ending.InputEnding.{InputEnding}
+use Rattle.mcg6_reader.specs.declared.ending.InputEnding.TheVariants.{ReadFault, Memory}
 use Rattle.mcg6_reader.specs.declared.place.LinePlace.{LinePlace}
 use Rattle.mcg6_reader.specs.Common.{lines_of, BeginningTold, first_place, GivesOutput, Reported, ReportsWith, Added, StopsWith, WroteUpTo, Stage, Steps, ReadsGave, TellsRead}
 use Rattle.mcg6_reader.proofs.Joins.{BeginningTold-none}
@@ -36,7 +36,7 @@ module _ {S K : Type 0} {tells : LinePlace → List ℕ → List ℕ → Type 0}
       (after : ℕ) × ReadsGave reads after bytes source last_source
   gave_more piece bytes last_source is reading = (suc gave_so_far.0, (read, piece, now_source, gave_so_far.1, is, reading))
 
-  module _ (bad : LinePlace → List ℕ → FaultKind → Type 0) (lacks : ℕ → Option FaultKind) (ending : Ending) where
+  module _ (bad : LinePlace → List ℕ → FaultKind → Type 0) (lacks : ℕ → Option FaultKind) (ending : InputEnding) where
     -- the processing stopped in a piece
     pub read_stops : (piece : List ℕ) (last_source : S) (last_sink : K) (last_founds : List BadLine) → reads now_source (Some piece) last_source →
         WroteUpTo written writes (StopsWith tells bad lacks place (held ++ piece)) ending now_sink last_sink →

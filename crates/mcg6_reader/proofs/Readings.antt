@@ -7,8 +7,8 @@ use Rattle.outside.specs.Common.{appended, prepended, IsAtEnd, most_line}
 use Rattle.outside.proofs.Pieces.{appended-nil, appended-appended}
 use Rattle.line_text.specs.declared.faults.FaultKind.{FaultKind}
 use Rattle.mcg6_reader.specs.declared.ending.BadLine.{BadLine}
-use Rattle.mcg6_reader.specs.declared.ending.Ending.{Ending}
-use Rattle.mcg6_reader.specs.declared.ending.Ending.TheVariants.{Memory}
+use Rattle.mcg6_reader.specs.declared.ending.InputEnding.{InputEnding}
+use Rattle.mcg6_reader.specs.declared.ending.InputEnding.TheVariants.{Memory}
 use Rattle.mcg6_reader.specs.declared.place.LinePlace.{LinePlace}
 use Rattle.mcg6_reader.specs.Common.{lines_of, HasNoFeed, IsClosedText, AllTold, BeginningTold, first_place, place_behind, GivesOutput, Reported, ReportsWith, Added, Appended, ToldThrough, StopsWith, TellsList, ReadsTold, Wrote, WroteUpTo, Steps}
 use Rattle.mcg6_reader.proofs.LineCuts.{lines_of-nil, lines_of-closed, IsClosedText-append}
@@ -156,7 +156,7 @@ module _ {S K : Type 0} {tells : LinePlace → List ℕ → List ℕ → Type 0}
   pub so_far_torn : (last_source : S) → left last_source ≡ left now_source → Appended (ReadsTold tells (left source) (left last_source)) (written sink) (written now_sink)
   so_far_torn last_source same = grind arith
 
-  module _ (bad : LinePlace → List ℕ → FaultKind → Type 0) (lacks : ℕ → Option FaultKind) (ending : Ending) where
+  module _ (bad : LinePlace → List ℕ → FaultKind → Type 0) (lacks : ℕ → Option FaultKind) (ending : InputEnding) where
     -- the output of the lines after the processed ones is that of the list
     pub gives_behind : (rest output : List ℕ) → GivesOutput tells bad lacks place (lines_of rest) ending output → GivesOutput tells bad lacks first_place (lines_of (so_far.whole ++ rest)) ending (so_far.output ++ output)
     gives_behind rest output gives =

@@ -5,8 +5,8 @@ use Rattle.outside.specs.Common.{most_line}
 use Rattle.line_text.specs.declared.faults.FaultKind.{FaultKind}
 use Rattle.line_text.specs.declared.faults.FaultKind.TheVariants.{Limit}
 use Rattle.mcg6_reader.specs.declared.ending.BadLine.{BadLine}
-use Rattle.mcg6_reader.specs.declared.ending.Ending.{Ending}
-use Rattle.mcg6_reader.specs.declared.ending.Ending.TheVariants.{Done, Bad, ReadFault, WriteFault, Memory}
+use Rattle.mcg6_reader.specs.declared.ending.InputEnding.{InputEnding}
+use Rattle.mcg6_reader.specs.declared.ending.InputEnding.TheVariants.{Done, Bad, ReadFault, WriteFault, Memory}
 use Rattle.mcg6_reader.specs.declared.ending.ListStop.{ListStop}
 use Rattle.mcg6_reader.specs.declared.ending.ListStop.TheVariants as stop
 use Rattle.mcg6_reader.specs.declared.place.LinePlace.{LinePlace}
@@ -61,7 +61,7 @@ module _ (reports : LinePlace → List ℕ → List BadLine → Type 0) (bad : L
   bad_begin n lines found founds (inr ends) = all_begin n lines founds ends.told
 
   -- and those up to any ending
-  pub reported_begin : (n : LinePlace) (lines : List (List ℕ)) (ending : Ending) (founds : List BadLine) → Reported reports bad lacks n lines ending founds → BeginningTold reports n lines founds
+  pub reported_begin : (n : LinePlace) (lines : List (List ℕ)) (ending : InputEnding) (founds : List BadLine) → Reported reports bad lacks n lines ending founds → BeginningTold reports n lines founds
   reported_begin n lines Done founds told = all_begin n lines founds told
   reported_begin n lines (Bad found) founds told = bad_begin n lines found founds told
   reported_begin n lines ReadFault founds told = told
@@ -70,7 +70,7 @@ module _ (reports : LinePlace → List ℕ → List BadLine → Type 0) (bad : L
 
   -- the reports on lines that have been processed, and those on the lines after them
   pub Reported-behind :
-      (n : LinePlace) (xs ys : List (List ℕ)) (a b : List BadLine) (ending : Ending) → AllTold reports n xs a →
+      (n : LinePlace) (xs ys : List (List ℕ)) (a b : List BadLine) (ending : InputEnding) → AllTold reports n xs a →
       Reported reports bad lacks (place_behind n xs) ys ending b → Reported reports bad lacks n (xs ++ ys) ending (a ++ b)
   Reported-behind n xs ys a b Done told behind = AllTold-append reports n xs ys a b told behind
   Reported-behind n xs ys a b (Bad found) told behind = ToldToBad-behind reports bad lacks n xs ys found a b told behind
@@ -99,7 +99,7 @@ module _ (reports : LinePlace → List ℕ → List BadLine → Type 0) (bad : L
 
   -- it stopped at a bad line, or for memory; and the write of what the lines before gave failed
   pub with_stop_fault :
-      (n : LinePlace) (text : List ℕ) (ending : Ending) (before now : List BadLine) → Added (ReportsWith reports bad lacks n text ending) before now →
+      (n : LinePlace) (text : List ℕ) (ending : InputEnding) (before now : List BadLine) → Added (ReportsWith reports bad lacks n text ending) before now →
       Added (ReportsWith reports bad lacks n text WriteFault) before now
   with_stop_fault n text ending before now stopped = record {
     more = stopped.more;

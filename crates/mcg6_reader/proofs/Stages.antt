@@ -3,8 +3,8 @@
 use Rattle.std.proofs.Common.{inr, ℕ, zero, suc, List, [], refl, sym, subst, ◌∙◌, ap, Option}
 use Rattle.outside.proofs.Pieces.{appended-nil}
 use Rattle.line_text.specs.declared.faults.FaultKind.{FaultKind}
-use Rattle.mcg6_reader.specs.declared.ending.Ending.{Ending}
-use Rattle.mcg6_reader.specs.declared.ending.Ending.TheVariants.{Done, Bad, ReadFault, WriteFault, Memory}
+use Rattle.mcg6_reader.specs.declared.ending.InputEnding.{InputEnding}
+use Rattle.mcg6_reader.specs.declared.ending.InputEnding.TheVariants.{Done, Bad, ReadFault, WriteFault, Memory}
 use Rattle.mcg6_reader.specs.declared.place.LinePlace.{LinePlace}
 use Rattle.mcg6_reader.specs.Common.{Appended, WroteUpTo, Stage, Step, Steps, IsStream}
 
@@ -20,9 +20,9 @@ steps_more tells reads writes (suc count) first mid last steps step =
 
 -- what was written up to an ending, seen otherwise
 pub wrote_otherwise :
-    {K : Type 0} (written : K → Option (List ℕ)) (writes : K → List ℕ → ℕ → K → Type 0) (gives other : Ending → List ℕ → Type 0) →
-    ((ending : Ending) (output : List ℕ) → gives ending output → other ending output) →
-    (ending : Ending) (first last : K) → WroteUpTo written writes gives ending first last →
+    {K : Type 0} (written : K → Option (List ℕ)) (writes : K → List ℕ → ℕ → K → Type 0) (gives other : InputEnding → List ℕ → Type 0) →
+    ((ending : InputEnding) (output : List ℕ) → gives ending output → other ending output) →
+    (ending : InputEnding) (first last : K) → WroteUpTo written writes gives ending first last →
     WroteUpTo written writes other ending first last
 wrote_otherwise written writes gives other so Done first last wrote = record {
   output = wrote.output;
@@ -48,8 +48,8 @@ wrote_otherwise written writes gives other so Memory first last wrote = wrote
 
 -- what was written up to an ending, by its bytes alone
 pub wrote_appended :
-    {K : Type 0} (written : K → Option (List ℕ)) (writes : K → List ℕ → ℕ → K → Type 0) (gives : Ending → List ℕ → Type 0) →
-    gives Memory [] → (ending : Ending) (first last : K) → WroteUpTo written writes gives ending first last →
+    {K : Type 0} (written : K → Option (List ℕ)) (writes : K → List ℕ → ℕ → K → Type 0) (gives : InputEnding → List ℕ → Type 0) →
+    gives Memory [] → (ending : InputEnding) (first last : K) → WroteUpTo written writes gives ending first last →
     Appended (gives ending) (written first) (written last)
 wrote_appended written writes gives none Done first last wrote =
     record { output = wrote.output; right = wrote.right; written = wrote.now }

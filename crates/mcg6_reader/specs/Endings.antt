@@ -3,8 +3,8 @@
 use Rattle.std.specs.Prelude.{◌≡◌, ℕ, ◌≤◌, List, ◌++◌, length, take, Option, Some, None}
 use Rattle.outside.specs.Common.{appended, IsWritten, IsCutOff, prepended, most_line}
 use Rattle.line_text.specs.declared.faults.FaultKind.{FaultKind}
-use Rattle.mcg6_reader.specs.declared.ending.Ending.{Ending}
-use Rattle.mcg6_reader.specs.declared.ending.Ending.TheVariants.{Done, Bad, ReadFault, WriteFault, Memory}
+use Rattle.mcg6_reader.specs.declared.ending.InputEnding.{InputEnding}
+use Rattle.mcg6_reader.specs.declared.ending.InputEnding.TheVariants.{Done, Bad, ReadFault, WriteFault, Memory}
 use Rattle.mcg6_reader.specs.declared.ending.BadLine.{BadLine}
 use Rattle.mcg6_reader.specs.declared.ending.ListStop.{ListStop}
 use Rattle.mcg6_reader.specs.declared.ending.ListStop.TheVariants as stop
@@ -15,7 +15,7 @@ use Rattle.mcg6_reader.specs.Places.{first_place, place_behind}
 
 -- the output of lines up to an ending, where the first line is at that place
 abbrev pub GivesOutput :
-    {A : Type 0} → (LinePlace → List ℕ → List A → Type 0) → (LinePlace → List ℕ → FaultKind → Type 0) → (ℕ → Option FaultKind) → LinePlace → List (List ℕ) → Ending →
+    {A : Type 0} → (LinePlace → List ℕ → List A → Type 0) → (LinePlace → List ℕ → FaultKind → Type 0) → (ℕ → Option FaultKind) → LinePlace → List (List ℕ) → InputEnding →
     List A → Type 0
 GivesOutput tells bad lacks place lines Done output = WholeTold tells lacks place lines output
 GivesOutput tells bad lacks place lines (Bad found) output = ToldToBad tells bad lacks place lines found output
@@ -28,7 +28,7 @@ GivesOutput tells bad lacks place lines Memory output = BeginningTold tells plac
 -- initial segment
 abbrev pub Reported :
     (LinePlace → List ℕ → List BadLine → Type 0) → (LinePlace → List ℕ → FaultKind → Type 0) → (ℕ → Option FaultKind) → LinePlace →
-    List (List ℕ) → Ending → List BadLine → Type 0
+    List (List ℕ) → InputEnding → List BadLine → Type 0
 Reported reports bad lacks place lines Done founds = AllTold reports place lines founds
 Reported reports bad lacks place lines (Bad found) founds = ToldToBad reports bad lacks place lines found founds
 Reported reports bad lacks place lines ReadFault founds = BeginningTold reports place lines founds
@@ -38,12 +38,12 @@ Reported reports bad lacks place lines Memory founds = BeginningTold reports pla
 -- whatever follows the text, these are the reports on the skipped lines of it up to the ending
 abbrev pub ReportsWith :
     (LinePlace → List ℕ → List BadLine → Type 0) → (LinePlace → List ℕ → FaultKind → Type 0) → (ℕ → Option FaultKind) → LinePlace →
-    (text : List ℕ) → Ending → List BadLine → Type 0
+    (text : List ℕ) → InputEnding → List BadLine → Type 0
 ReportsWith reports bad lacks place text ending founds =
     (rest : List ℕ) → Reported reports bad lacks place (lines_of (text ++ rest)) ending founds
 
 -- the ending for which the processing stops
-abbrev pub ending_of : ListStop → Ending
+abbrev pub ending_of : ListStop → InputEnding
 ending_of (stop.Bad found) = Bad found
 ending_of stop.Memory = Memory
 
@@ -82,7 +82,7 @@ pub record ToldThrough {A : Type 0} (tells : LinePlace → List ℕ → List A �
 -- whatever follows the text, this is the output of its lines up to the ending, where the first line
 -- is at that place
 abbrev pub StopsWith :
-    {A : Type 0} → (LinePlace → List ℕ → List A → Type 0) → (LinePlace → List ℕ → FaultKind → Type 0) → (ℕ → Option FaultKind) → LinePlace → (text : List ℕ) → Ending →
+    {A : Type 0} → (LinePlace → List ℕ → List A → Type 0) → (LinePlace → List ℕ → FaultKind → Type 0) → (ℕ → Option FaultKind) → LinePlace → (text : List ℕ) → InputEnding →
     List A → Type 0
 StopsWith tells bad lacks place text ending output =
     (rest : List ℕ) → GivesOutput tells bad lacks place (lines_of (text ++ rest)) ending output
@@ -105,7 +105,7 @@ pub record WroteCut {K : Type 0} (written : K → Option (List ℕ)) (writes : K
 -- what was written up to an ending, of which this is true: nothing if memory ran out, and nothing
 -- after a write that failed
 abbrev pub WroteUpTo :
-    {K : Type 0} → (K → Option (List ℕ)) → (K → List ℕ → ℕ → K → Type 0) → (Ending → List ℕ → Type 0) → Ending → K → K → Type 0
+    {K : Type 0} → (K → Option (List ℕ)) → (K → List ℕ → ℕ → K → Type 0) → (InputEnding → List ℕ → Type 0) → InputEnding → K → K → Type 0
 WroteUpTo written writes gives Done first last = Wrote written writes (gives Done) first last
 WroteUpTo written writes gives (Bad found) first last = Wrote written writes (gives (Bad found)) first last
 WroteUpTo written writes gives ReadFault first last = ⊥
@@ -120,7 +120,7 @@ IsKnownLeft (Some left) bytes = left ≡ bytes
 -- what was written up to the ending is the output of the lines of a list: of the bytes that were
 -- left in the source, if it makes them known; and the reports that were added are those on its
 -- skipped lines
-pub record TellsList (tells : LinePlace → List ℕ → List ℕ → Type 0) (bad : LinePlace → List ℕ → FaultKind → Type 0) (lacks : ℕ → Option FaultKind) (reports : LinePlace → List ℕ → List BadLine → Type 0) (ending : Ending) (left before now : Option (List ℕ)) (founds_before founds_now : List BadLine) : Type 0 where
+pub record TellsList (tells : LinePlace → List ℕ → List ℕ → Type 0) (bad : LinePlace → List ℕ → FaultKind → Type 0) (lacks : ℕ → Option FaultKind) (reports : LinePlace → List ℕ → List BadLine → Type 0) (ending : InputEnding) (left before now : Option (List ℕ)) (founds_before founds_now : List BadLine) : Type 0 where
   pub bytes : List ℕ
   pub is_left : IsKnownLeft left bytes
   pub gives : Appended (GivesOutput tells bad lacks first_place (lines_of bytes) ending) before now

@@ -4,7 +4,7 @@ use Rattle.std.specs.Prelude.{◌≡◌, ℕ, zero, suc, List, [], ◌++◌, Opt
 use Rattle.outside.specs.Common.{bytes_given}
 use Rattle.line_text.specs.declared.faults.FaultKind.{FaultKind}
 use Rattle.mcg6_reader.specs.declared.ending.BadLine.{BadLine}
-use Rattle.mcg6_reader.specs.declared.ending.Ending.{Ending}
+use Rattle.mcg6_reader.specs.declared.ending.InputEnding.{InputEnding}
 use Rattle.mcg6_reader.specs.declared.place.LinePlace.{LinePlace}
 use Rattle.mcg6_reader.specs.Endings.{Added, Appended, GivesOutput, Reported}
 use Rattle.mcg6_reader.specs.Lines.{lines_of}
@@ -20,7 +20,7 @@ ReadsGave {S} reads (suc count) bytes first last =
 
 -- the reads of the source returned these bytes, and nothing else: what was written up to the ending
 -- is the output of their lines, and the reports that were added are those on their skipped lines
-pub record TellsRead {S : Type 0} (tells : LinePlace → List ℕ → List ℕ → Type 0) (bad : LinePlace → List ℕ → FaultKind → Type 0) (lacks : ℕ → Option FaultKind) (reports : LinePlace → List ℕ → List BadLine → Type 0) (reads : S → Option (List ℕ) → S → Type 0) (ending : Ending) (first last : S) (before now : Option (List ℕ)) (founds_before founds_now : List BadLine) : Type 0 where
+pub record TellsRead {S : Type 0} (tells : LinePlace → List ℕ → List ℕ → Type 0) (bad : LinePlace → List ℕ → FaultKind → Type 0) (lacks : ℕ → Option FaultKind) (reports : LinePlace → List ℕ → List BadLine → Type 0) (reads : S → Option (List ℕ) → S → Type 0) (ending : InputEnding) (first last : S) (before now : Option (List ℕ)) (founds_before founds_now : List BadLine) : Type 0 where
   pub bytes : List ℕ
   pub count : ℕ
   pub gave : ReadsGave reads count bytes first last

@@ -4,8 +4,8 @@
 use Rattle.std.specs.Prelude.{◌≡◌, ◌⊎◌, ℕ, zero, suc, List, [], ◌∷◌, ◌++◌, Option, Some, None}
 use Rattle.outside.specs.Common.{IsWritten}
 use Rattle.line_text.specs.declared.faults.FaultKind.{FaultKind}
-use Rattle.mcg6_reader.specs.declared.ending.Ending.{Ending}
-use Rattle.mcg6_reader.specs.declared.ending.Ending.TheVariants.{ReadFault, Memory}
+use Rattle.mcg6_reader.specs.declared.ending.InputEnding.{InputEnding}
+use Rattle.mcg6_reader.specs.declared.ending.InputEnding.TheVariants.{ReadFault, Memory}
 use Rattle.mcg6_reader.specs.declared.place.LinePlace.{LinePlace}
 use Rattle.mcg6_reader.specs.Endings.{GivesOutput, WholeLinesTold, WroteUpTo}
 use Rattle.mcg6_reader.specs.Lines.{lines_of}
@@ -47,25 +47,25 @@ MayFollow (byte ∷ piece) rest = Unit {0}
 -- may follow the piece
 abbrev pub GivesAfter :
     (LinePlace → List ℕ → List ℕ → Type 0) → (LinePlace → List ℕ → FaultKind → Type 0) → (ℕ → Option FaultKind) → (read piece before : List ℕ) →
-    Ending → List ℕ → Type 0
+    InputEnding → List ℕ → Type 0
 GivesAfter tells bad lacks read piece before ending more =
     (rest : List ℕ) → MayFollow piece rest → GivesOutput tells bad lacks first_place (lines_of ((read ++ piece) ++ rest)) ending (before ++ more)
 
 -- one read returned a piece, and the processing ended: what was written up to the ending is the
 -- output of the lines of the list, whatever may follow the piece
-pub record EndsAfter {S K : Type 0} (tells : LinePlace → List ℕ → List ℕ → Type 0) (bad : LinePlace → List ℕ → FaultKind → Type 0) (lacks : ℕ → Option FaultKind) (reads : S → Option (List ℕ) → S → Type 0) (written : K → Option (List ℕ)) (writes : K → List ℕ → ℕ → K → Type 0) (ending : Ending) (before : Stage S K) (source : S) (sink : K) : Type 0 where
+pub record EndsAfter {S K : Type 0} (tells : LinePlace → List ℕ → List ℕ → Type 0) (bad : LinePlace → List ℕ → FaultKind → Type 0) (lacks : ℕ → Option FaultKind) (reads : S → Option (List ℕ) → S → Type 0) (written : K → Option (List ℕ)) (writes : K → List ℕ → ℕ → K → Type 0) (ending : InputEnding) (before : Stage S K) (source : S) (sink : K) : Type 0 where
   pub piece : List ℕ
   pub reading : reads before.source (Some piece) source
   pub writing : WroteUpTo written writes (GivesAfter tells bad lacks before.read piece before.output) ending before.sink sink
 
 -- the processing ended without a further read: memory ran out
-pub record EndsUnread {S K : Type 0} (ending : Ending) (before : Stage S K) (source : S) (sink : K) : Type 0 where
+pub record EndsUnread {S K : Type 0} (ending : InputEnding) (before : Stage S K) (source : S) (sink : K) : Type 0 where
   pub memory : ending ≡ Memory
   pub same_source : source ≡ before.source
   pub same_sink : sink ≡ before.sink
 
 -- the processing ended with a read that failed: nothing was written after it
-pub record EndsTorn {S K : Type 0} (reads : S → Option (List ℕ) → S → Type 0) (ending : Ending) (before : Stage S K) (source : S) (sink : K) : Type 0 where
+pub record EndsTorn {S K : Type 0} (reads : S → Option (List ℕ) → S → Type 0) (ending : InputEnding) (before : Stage S K) (source : S) (sink : K) : Type 0 where
   pub fault : ending ≡ ReadFault
   pub reading : reads before.source None source
   pub same_sink : sink ≡ before.sink
@@ -73,14 +73,14 @@ pub record EndsTorn {S K : Type 0} (reads : S → Option (List ℕ) → S → Ty
 -- how the processing ends
 abbrev pub Ends :
     {S K : Type 0} → (LinePlace → List ℕ → List ℕ → Type 0) → (LinePlace → List ℕ → FaultKind → Type 0) → (ℕ → Option FaultKind) →
-    (S → Option (List ℕ) → S → Type 0) → (K → Option (List ℕ)) → (K → List ℕ → ℕ → K → Type 0) → Ending → Stage S K → S → K → Type 0
+    (S → Option (List ℕ) → S → Type 0) → (K → Option (List ℕ)) → (K → List ℕ → ℕ → K → Type 0) → InputEnding → Stage S K → S → K → Type 0
 Ends tells bad lacks reads written writes ending before source sink =
     EndsAfter tells bad lacks reads written writes ending before source sink ⊎
     (EndsTorn reads ending before source sink ⊎ EndsUnread ending before source sink)
 
 -- the list of a source was processed to a sink: so many reads and what was written after each, and
 -- then how it ended
-pub record IsStream {S K : Type 0} (tells : LinePlace → List ℕ → List ℕ → Type 0) (bad : LinePlace → List ℕ → FaultKind → Type 0) (lacks : ℕ → Option FaultKind) (reads : S → Option (List ℕ) → S → Type 0) (written : K → Option (List ℕ)) (writes : K → List ℕ → ℕ → K → Type 0) (ending : Ending) (source : S) (sink : K) (last_source : S) (last_sink : K) : Type 0 where
+pub record IsStream {S K : Type 0} (tells : LinePlace → List ℕ → List ℕ → Type 0) (bad : LinePlace → List ℕ → FaultKind → Type 0) (lacks : ℕ → Option FaultKind) (reads : S → Option (List ℕ) → S → Type 0) (written : K → Option (List ℕ)) (writes : K → List ℕ → ℕ → K → Type 0) (ending : InputEnding) (source : S) (sink : K) (last_source : S) (last_sink : K) : Type 0 where
   pub count : ℕ
   pub last : Stage S K
   pub steps : Steps tells reads writes count (record { read = []; output = []; source = source; sink = sink }) last

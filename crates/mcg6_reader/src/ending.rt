@@ -17,13 +17,15 @@ pub struct BadLine {
     pub text: Vec<u8>,
 }
 
-/// How the processing of a list ended.
+/// How the processing of an input ended: of a list, line by line, or of a graph file as a whole.
+/// Nothing is written of a graph file that is bad, that cannot be read, or for lack of memory.
 #[derive(Debug, PartialEq, Eq, Drop)]
-pub enum Ending {
-    /// Each line was processed or skipped, and its output was written.
+pub enum InputEnding {
+    /// Each line was processed or skipped, and its output was written; or the text of the graph.
     Done,
     /// A line was bad and not skipped, or missing at the end: the outputs of the lines before it
-    /// were written, and nothing of it.
+    /// were written, and nothing of it. A file that is too long has
+    /// line 0.
     Bad { found: BadLine },
     /// The source could not be read: the outputs of the whole lines before were written.
     ReadFault,

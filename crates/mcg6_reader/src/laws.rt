@@ -8,7 +8,7 @@ use crate::teller::LineTeller;
 
 /// If the teller has at most one output for each line, it has at most one for a list.
 #[tactic(auto, using(crate::proofs::OneOutput::one_output))]
-pub fn one_output_law<T: LineTeller>(teller: &T)
+pub fn one_telling_law<T: LineTeller>(teller: &T)
     ensures { (place : LinePlace) (lines : List (List ℕ)) (a b : List ℕ)
         → HasOneOutputPerLine (T.tells teller.now)
         → AllTold (T.tells teller.now) place lines a →

@@ -6,10 +6,10 @@
 //! bad lines if these are skipped.
 //!
 //! Main definitions, in specs/: `lines_of`; `LineTold` and `LineBad`, the result for one line;
-//! `AllTold`, the outputs in order; `GivesOutput`, what was written up to each `Ending`;
+//! `AllTold`, the outputs in order; `GivesOutput`, what was written up to each `InputEnding`;
 //! `IsStream`, the reads and writes in order. At the endings `Done` and `Bad` the output is
 //! determined by the lines, not by the pieces, and at the others it is that of a beginning of the
-//! list; no write follows a failed one. `one_output_law` and `one_ending_law`: if each line has at
+//! list; no write follows a failed one. `one_telling_law` and `one_ending_law`: if each line has at
 //! most one result, so has the list. Depends on `outside` and `line_text`. Source of the header: B.
 //! D. McKay, "Description of graph6, sparse6 and digraph6 encodings".
 #![tactic(auto)]
@@ -23,8 +23,8 @@ mod reading;
 mod teller;
 mod telling;
 
-pub use ending::{BadLine, Ending};
-pub use laws::{one_ending_law, one_output_law};
+pub use ending::{BadLine, InputEnding};
+pub use laws::{one_ending_law, one_telling_law};
 pub use place::LinePlace;
 pub use reading::tell_all;
 pub use teller::{LineAnswer, LineTeller};

@@ -1,7 +1,7 @@
 //! A list that comes in pieces.
 ghost use Rattle.std.specs.Prelude.{◌≡◌, ◌≤◌, ◌++◌, IfErr, IfOk, OnOk, length};
 ghost use Rattle.outside.specs.Common.{most_line};
-ghost use Rattle.mcg6_reader.specs.declared.ending.Ending.TheVariants as ending;
+ghost use Rattle.mcg6_reader.specs.declared.ending.InputEnding.TheVariants as ending;
 ghost use Rattle.mcg6_reader.specs.Common.{HasNoFeed, lines_of, AllTold, ToldToBad, place_behind, IfBad, Added, GivesOutput, Reported, Reports, ReportsWith, ToldThrough, StopsWith, ending_of};
 
 use crate::ending::{BadLine, ListStop, stop_at};

@@ -3,7 +3,7 @@ ghost use Rattle.std.specs.Prelude.{◌≡◌, ◌≢◌, ◌≤◌, ◌<◌, �
 ghost use Rattle.outside.specs.Common.{Rose, most_line};
 ghost use Rattle.mcg6_reader.specs.Common.{HasNoFeed, lines_of, first_place, Added, Appended, GivesOutput, Reported, Reports, ReportsWith, ToldThrough, StopsWith, TellsList, TellsRead, ReadsTold, Wrote, WroteUpTo, IsStream};
 
-use crate::ending::{BadLine, Ending, ListStop};
+use crate::ending::{BadLine, InputEnding, ListStop};
 use crate::listing::{Listing, add_end, add_piece};
 use crate::place::first_place;
 use crate::teller::LineTeller;
@@ -21,7 +21,7 @@ fn take_piece<T: LineTeller, K: Sink>(
     piece: &[u8],
     sink: &mut K,
     skipped: &mut Vec<BadLine>,
-) -> Result<(), Ending>
+) -> Result<(), InputEnding>
     ensures told { OnOk result (Wrote K.written K.writes
         (ToldThrough (T.tells teller.now) listing.old.place (listing.old.held.items ++ piece.now)
         listing.new.held.items listing.new.place) sink.old sink.new) }
@@ -37,8 +37,8 @@ fn take_piece<T: LineTeller, K: Sink>(
         (ReportsWith (Reports (T.skips teller.now)) (T.bad teller.now) (T.lacks teller.now)
         listing.old.place (listing.old.held.items ++ piece.now) ending)
         skipped.old.items skipped.new.items) }
-    ensures others { IfErr result (λ ending. ending ≢ Ending.ReadFault) }
-    ensures write_fault { IfErr result (λ ending. ending ≡ Ending.WriteFault →
+    ensures others { IfErr result (λ ending. ending ≢ InputEnding.ReadFault) }
+    ensures write_fault { IfErr result (λ ending. ending ≡ InputEnding.WriteFault →
         Rose (K.faults sink.old) (K.faults sink.new)) }
     ensures later { K.faults sink.old ≤ K.faults sink.new }
 {
@@ -46,13 +46,13 @@ fn take_piece<T: LineTeller, K: Sink>(
     match add_piece(alloc, teller, listing, piece, &mut output, skipped) {
         Ok(()) => match emit(sink, &output) {
             Ok(()) => Ok(()),
-            Err(_) => Err(Ending::WriteFault),
+            Err(_) => Err(InputEnding::WriteFault),
         },
         Err(ListStop::Bad { found }) => match emit(sink, &output) {
-            Ok(()) => Err(Ending::Bad { found }),
-            Err(_) => Err(Ending::WriteFault),
+            Ok(()) => Err(InputEnding::Bad { found }),
+            Err(_) => Err(InputEnding::WriteFault),
         },
-        Err(ListStop::Memory) => Err(Ending::Memory),
+        Err(ListStop::Memory) => Err(InputEnding::Memory),
     }
 }
 
@@ -63,7 +63,7 @@ fn take_end<T: LineTeller, K: Sink>(
     listing: &Listing,
     sink: &mut K,
     skipped: &mut Vec<BadLine>,
-) -> Ending
+) -> InputEnding
     requires { HasNoFeed listing.now.held.items }
     ensures gives { WroteUpTo K.written K.writes
         (GivesOutput (T.tells teller.now) (T.bad teller.now) (T.lacks teller.now) listing.now.place
@@ -72,8 +72,8 @@ fn take_end<T: LineTeller, K: Sink>(
         (Reported (Reports (T.skips teller.now)) (T.bad teller.now) (T.lacks teller.now)
         listing.now.place (lines_of listing.now.held.items) result)
         skipped.old.items skipped.new.items }
-    ensures others { result ≢ Ending.ReadFault }
-    ensures write_fault { result ≡ Ending.WriteFault →
+    ensures others { result ≢ InputEnding.ReadFault }
+    ensures write_fault { result ≡ InputEnding.WriteFault →
         Rose (K.faults sink.old) (K.faults sink.new) }
 {
     let mut output = Vec::new(alloc);
@@ -86,14 +86,14 @@ fn take_end<T: LineTeller, K: Sink>(
         skipped,
     ) {
         Ok(()) => match emit(sink, &output) {
-            Ok(()) => Ending::Done,
-            Err(_) => Ending::WriteFault,
+            Ok(()) => InputEnding::Done,
+            Err(_) => InputEnding::WriteFault,
         },
         Err(ListStop::Bad { found }) => match emit(sink, &output) {
-            Ok(()) => Ending::Bad { found },
-            Err(_) => Ending::WriteFault,
+            Ok(()) => InputEnding::Bad { found },
+            Err(_) => InputEnding::WriteFault,
         },
-        Err(ListStop::Memory) => Ending::Memory,
+        Err(ListStop::Memory) => InputEnding::Memory,
     }
 }
 
@@ -105,7 +105,7 @@ fn tell_through<T: LineTeller, S: Source, K: Sink>(
     sink: &mut K,
     skipped: &mut Vec<BadLine>,
     piece: &mut [u8],
-) -> Ending
+) -> InputEnding
     requires { 0 < length piece.old }
     ensures streams { IsStream (T.tells teller.now) (T.bad teller.now) (T.lacks teller.now) S.reads
         K.written K.writes result source.old sink.old source.new sink.new }
@@ -115,12 +115,12 @@ fn tell_through<T: LineTeller, S: Source, K: Sink>(
     ensures reads { TellsRead (T.tells teller.now) (T.bad teller.now) (T.lacks teller.now)
         (Reports (T.skips teller.now)) S.reads result source.old source.new (K.written sink.old)
         (K.written sink.new) skipped.old.items skipped.new.items }
-    ensures torn { result ≡ Ending.ReadFault
+    ensures torn { result ≡ InputEnding.ReadFault
         → Appended (ReadsTold (T.tells teller.now) (S.left source.old) (S.left source.new))
         (K.written sink.old) (K.written sink.new) }
-    ensures read_fault { result ≡ Ending.ReadFault →
+    ensures read_fault { result ≡ InputEnding.ReadFault →
         Rose (S.faults source.old) (S.faults source.new) }
-    ensures write_fault { result ≡ Ending.WriteFault →
+    ensures write_fault { result ≡ InputEnding.WriteFault →
         Rose (K.faults sink.old) (K.faults sink.new) }
 {
     let mut listing = Listing {
@@ -129,7 +129,7 @@ fn tell_through<T: LineTeller, S: Source, K: Sink>(
     };
     'reading: for _ in 0..u64::MAX {
         match source.read(piece) {
-            Err(_) => return Ending::ReadFault,
+            Err(_) => return InputEnding::ReadFault,
             Ok(0) => return take_end(alloc, teller, &listing, sink, skipped),
             Ok(count) => {
                 match take_piece(alloc, teller, &mut listing, &piece[..count], sink, skipped) {
@@ -139,7 +139,7 @@ fn tell_through<T: LineTeller, S: Source, K: Sink>(
             }
         }
     }
-    Ending::Memory
+    InputEnding::Memory
 }
 
 /// Reads the list that is left of the source to its end, processes each of its lines, and writes
@@ -158,7 +158,7 @@ pub fn tell_all<T: LineTeller, S: Source, K: Sink>(
     source: &mut S,
     sink: &mut K,
     skipped: &mut Vec<BadLine>,
-) -> Ending
+) -> InputEnding
     // After each read, all lines that are complete in what was read are processed and written
     // before the next read; no write follows one that failed, and no read or write follows a read
     // that failed.
@@ -183,17 +183,17 @@ pub fn tell_all<T: LineTeller, S: Source, K: Sink>(
         (Reports (T.skips teller.now)) S.reads result source.old source.new (K.written sink.old)
         (K.written sink.new) skipped.old.items skipped.new.items }
     // If the source fails, each complete line of what was read is processed and written.
-    ensures torn { result ≡ Ending.ReadFault
+    ensures torn { result ≡ InputEnding.ReadFault
         → Appended (ReadsTold (T.tells teller.now) (S.left source.old) (S.left source.new))
         (K.written sink.old) (K.written sink.new) }
     // An error of the source or the sink comes only if its count rose in this call.
-    ensures read_fault { result ≡ Ending.ReadFault →
+    ensures read_fault { result ≡ InputEnding.ReadFault →
         Rose (S.faults source.old) (S.faults source.new) }
-    ensures write_fault { result ≡ Ending.WriteFault →
+    ensures write_fault { result ≡ InputEnding.WriteFault →
         Rose (K.faults sink.old) (K.faults sink.new) }
 {
     match vec![in alloc; 0u8; PIECE] {
         Ok(mut piece) => tell_through(alloc, teller, source, sink, skipped, &mut piece),
-        Err(_) => Ending::Memory,
+        Err(_) => InputEnding::Memory,
     }
 }

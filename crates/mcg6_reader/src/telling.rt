@@ -1,7 +1,7 @@
 //! Processing the lines of a text.
 ghost use Rattle.std.specs.Prelude.{◌≡◌, ◌≤◌, IfOk, IfErr, OnOk, length};
 ghost use Rattle.outside.specs.Common.{most_line};
-ghost use Rattle.mcg6_reader.specs.declared.ending.Ending.TheVariants as ending;
+ghost use Rattle.mcg6_reader.specs.declared.ending.InputEnding.TheVariants as ending;
 ghost use Rattle.mcg6_reader.specs.Common.{IfBad, LineTold, NamesBad, HasNoFeed, Added, Reports, ReportsWith, ToldThrough, StopsWith, ending_of};
 
 use crate::cutting::first_line;

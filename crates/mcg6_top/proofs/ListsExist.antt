@@ -13,8 +13,8 @@ use Rattle.mcg6_reader.proofs.Joins.{AllTold-one, GivesOutput-behind, HasBadLine
 use Rattle.mcg6_reader.proofs.Skips.{Reported-behind}
 use Rattle.mcg6_reader.specs.Common.{is_header, GivesOutput, IsReportOn, IsKeptOfLine, LineTold, NamesBad, Reported, Reports, first_place, lines_of, place_after}
 use Rattle.mcg6_reader.specs.declared.ending.BadLine.{BadLine}
-use Rattle.mcg6_reader.specs.declared.ending.Ending.{Ending}
-use Rattle.mcg6_reader.specs.declared.ending.Ending.TheVariants.{Done, Bad, ReadFault, WriteFault, Memory}
+use Rattle.mcg6_reader.specs.declared.ending.InputEnding.{InputEnding}
+use Rattle.mcg6_reader.specs.declared.ending.InputEnding.TheVariants.{Done, Bad, ReadFault, WriteFault, Memory}
 use Rattle.mcg6_reader.specs.declared.place.LinePlace.{LinePlace}
 use Rattle.mcg6_top.proofs.Ended.{outcome_of_ending}
 use Rattle.mcg6_top.proofs.Skipping.{good_line}
@@ -43,7 +43,7 @@ module _ (sample : Vec ℕ) where
     -- what comes of lines
     abbrev Comes : LinePlace → List (List ℕ) → Type 0
     Comes place lines =
-        (ending : Ending) × (skipped : List BadLine) × (output : List ℕ) × IsSettledEnding ending × GivesOutput tells bad lacks place lines ending output
+        (ending : InputEnding) × (skipped : List BadLine) × (output : List ℕ) × IsSettledEnding ending × GivesOutput tells bad lacks place lines ending output
         × Reported reports bad lacks place lines ending skipped
 
     -- no line is left
@@ -153,7 +153,7 @@ module _ (sample : Vec ℕ) where
       record { ending = end.0; skipped = end.1; output = end.2; settled = end.3; gives = end.4; skips = end.5 }
 
 -- and so an outcome
-by_ending : (query : Query) (at_bad : AtBadLine) (bytes : List ℕ) (ending : Ending) (skipped : List BadLine) (output : List ℕ) → IsSettledEnding ending →
+by_ending : (query : Query) (at_bad : AtBadLine) (bytes : List ℕ) (ending : InputEnding) (skipped : List BadLine) (output : List ℕ) → IsSettledEnding ending →
     EndsWith query at_bad bytes ending output → SkipsUpTo query at_bad bytes ending skipped → HasListOutcome query at_bad bytes
 by_ending query at_bad bytes Done [] output settled gives skips =
     record { status = status.Done; output = output; settled = inl refl; outcome = outcome_of_ending query at_bad bytes Done [] output gives skips }

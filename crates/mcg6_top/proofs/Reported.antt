@@ -5,7 +5,7 @@ use Rattle.std.proofs.lemmas.List.{append_cancel_left}
 use Rattle.mcg6_encoder.specs.from_outside.Common.{HasPrinted, PrintState, ReadState, ReaderState}
 use Rattle.mcg6_reader.specs.Common.{Appended}
 use Rattle.mcg6_encoder.proofs.TakenBytes.{file-taken, gave-takes}
-use Rattle.mcg6_top.specs.Common.{Command, Answer, Encode, EncodeOutcome, EndsOn, HasListReport, InstalledRun, RowGives, code_of, command_of, file_named_by, nothing_printed, nothing_read}
+use Rattle.mcg6_top.specs.Common.{Mcg6Command, Answer, Encode, EncodeOutcome, EndsOn, HasListReport, InstalledRun, RowGives, code_of, command_of, file_named_by, nothing_printed, nothing_read}
 use Rattle.mcg6_top.specs.declared.status.ListStatus.{ListStatus}
 use Rattle.mcg6_top.proofs.Ended.{appended_encoding}
 
@@ -14,7 +14,7 @@ printed-is : (holds : List ℕ → Type 0) (before now : PrintState) → (a : Ap
 printed-is holds before now a = let same : Some now.printed ≡ Some (before.printed ++ a.output) = a.written in cc same
 
 module _ (words : List (List ℕ)) (status : ListStatus) (first last : ReadState) (before now : PrintState) (runs : InstalledRun words status first last before now) where
-  report-of : (row : Option Command) → command_of words ≡ row → HasListReport row status first last before now
+  report-of : (row : Option Mcg6Command) → command_of words ≡ row → HasListReport row status first last before now
   report-of None is =
       let usage = runs.usage.1 is in
       record {

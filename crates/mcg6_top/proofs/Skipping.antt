@@ -9,7 +9,7 @@ use Rattle.mcg6_lines.specs.declared.query.Query.{Query}
 use Rattle.mcg6_reader.proofs.Skips.{reported_begin}
 use Rattle.mcg6_reader.specs.Common.{lines_of, AllTold, LineTold, WholeTold, Added, HasOneFault, HasOneOutputPerLine, TellsApart, Reported, Reports, first_place, place_after}
 use Rattle.mcg6_reader.specs.declared.ending.BadLine.{BadLine}
-use Rattle.mcg6_reader.specs.declared.ending.Ending.{Ending}
+use Rattle.mcg6_reader.specs.declared.ending.InputEnding.{InputEnding}
 use Rattle.mcg6_reader.specs.declared.place.LinePlace.{LinePlace}
 use Rattle.mcg6_top.proofs.OneOutput.{one_fault_each, one_output_each, told_or_bad}
 use Rattle.mcg6_top.specs.Common.{IsBadLine, is_past_graph, TellsLineOf, TellsOrSkips, ListStopsAt, SkipsLine, lacks_of}
@@ -142,7 +142,7 @@ all_stop query place (line ∷ lines) founds (a, b, some, more, is) =
     is ∙ ap₂ ◌++◌ none nones
 
 pub stop_none :
-    (query : Query) (at_bad : AtBadLine) (bytes : List ℕ) (ending : Ending) (skipped : List BadLine) →
+    (query : Query) (at_bad : AtBadLine) (bytes : List ℕ) (ending : InputEnding) (skipped : List BadLine) →
     Reported (Reports (SkipsLine query at_bad)) (ListStopsAt query at_bad) (lacks_of query) first_place (lines_of bytes) ending skipped →
     at_bad ≡ Stop → skipped ≡ []
 stop_none query Skip bytes ending skipped reported is = absurd (cc is)

@@ -11,8 +11,8 @@ use Rattle.mcg6_reader.proofs.LineCuts.{lines_of-closed}
 use Rattle.mcg6_reader.proofs.Skips.{Reported-behind}
 use Rattle.mcg6_reader.specs.Common.{lines_of, AllTold, GivesOutput, IsClosedText, LineTold, Reported, Reports, first_place, place_after, place_behind}
 use Rattle.mcg6_reader.specs.declared.ending.BadLine.{BadLine}
-use Rattle.mcg6_reader.specs.declared.ending.Ending.{Ending}
-use Rattle.mcg6_reader.specs.declared.ending.Ending.TheVariants.{Done, Bad, ReadFault, WriteFault, Memory}
+use Rattle.mcg6_reader.specs.declared.ending.InputEnding.{InputEnding}
+use Rattle.mcg6_reader.specs.declared.ending.InputEnding.TheVariants.{Done, Bad, ReadFault, WriteFault, Memory}
 use Rattle.mcg6_reader.specs.declared.place.LinePlace.{LinePlace}
 use Rattle.mcg6_top.proofs.LaterLines.{EndsAnywhere, IsLater, MayMove, opens_at, number_behind, all_later, begin_later, stop_later, whole_later}
 use Rattle.mcg6_top.proofs.Skipping.{good_line, whole_lifted}
@@ -116,7 +116,7 @@ module _ (query : Query) (at_bad : AtBadLine) (by : IsTrue (is_by_line query)) w
   module _ (count : ℕ) (p q : LinePlace) (lines : List (List ℕ)) (later : IsLater count p q) (plain : opens_at p lines ≡ false) where
     -- the output of lines up to an ending may be moved
     gives_later :
-        (ending : Ending) (output : List ℕ) → GivesOutput (TellsOrSkips query at_bad) (ListStopsAt query at_bad) (lacks_of query) p lines ending output →
+        (ending : InputEnding) (output : List ℕ) → GivesOutput (TellsOrSkips query at_bad) (ListStopsAt query at_bad) (lacks_of query) p lines ending output →
         GivesOutput (TellsOrSkips query at_bad) (ListStopsAt query at_bad) (lacks_of query) q lines (ending_behind count ending) output
     gives_later Done output gives = whole_later (outputs_move query at_bad count by) p q lines later plain (ends_anywhere query at_bad by) output gives
     gives_later (Bad found) output gives = stop_later (outputs_move query at_bad count by) p q lines later plain (ends_anywhere query at_bad by) found output gives
@@ -132,7 +132,7 @@ module _ (query : Query) (at_bad : AtBadLine) (by : IsTrue (is_by_line query)) w
 
     -- and so may the reports on skipped lines
     reported_later :
-        (ending : Ending) (founds : List BadLine) → Reported (Reports (SkipsLine query at_bad)) (ListStopsAt query at_bad) (lacks_of query) p lines ending founds →
+        (ending : InputEnding) (founds : List BadLine) → Reported (Reports (SkipsLine query at_bad)) (ListStopsAt query at_bad) (lacks_of query) p lines ending founds →
         Reported (Reports (SkipsLine query at_bad)) (ListStopsAt query at_bad) (lacks_of query) q lines (ending_behind count ending) (map (found_behind count) founds)
     reported_later Done founds reported = all_later (reports_move query at_bad count by) p q lines founds later plain reported
     reported_later (Bad found) founds reported = stop_later (reports_move query at_bad count by) p q lines later plain (ends_anywhere query at_bad by) found founds reported
@@ -147,7 +147,7 @@ module _ (query : Query) (at_bad : AtBadLine) (by : IsTrue (is_by_line query)) w
 
     -- the output of the first list, and then that of the second, up to its ending
     pub ends_split :
-        (ending : Ending) (a b : List ℕ) → EndsWith query at_bad first Done a → EndsWith query at_bad second ending b →
+        (ending : InputEnding) (a b : List ℕ) → EndsWith query at_bad first Done a → EndsWith query at_bad second ending b →
         EndsWith query at_bad (first ++ second) (ending_behind (length (lines_of first)) ending) (a ++ b)
     ends_split ending a b one two =
         let count = length (lines_of first) in
@@ -159,7 +159,7 @@ module _ (query : Query) (at_bad : AtBadLine) (by : IsTrue (is_by_line query)) w
 
     -- and so the reports on skipped lines
     pub skips_split :
-        (ending : Ending) (a b : List BadLine) → SkipsUpTo query at_bad first Done a → SkipsUpTo query at_bad second ending b →
+        (ending : InputEnding) (a b : List BadLine) → SkipsUpTo query at_bad first Done a → SkipsUpTo query at_bad second ending b →
         SkipsUpTo query at_bad (first ++ second) (ending_behind (length (lines_of first)) ending) (a ++ map (found_behind (length (lines_of first))) b)
     skips_split ending a b one two =
         let count = length (lines_of first) in

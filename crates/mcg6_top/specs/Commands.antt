@@ -22,9 +22,9 @@ pub record ListCommand : Type 0 where
 
 -- what the words ask for: something of each graph of a list, or the graph6 text of the graph in the
 -- file of that name
-pub data Command : Type 0 where
-  Answer : (list : ListCommand) → Command
-  Encode : (file : List ℕ) → Command
+pub data Mcg6Command : Type 0 where
+  Answer : (list : ListCommand) → Mcg6Command
+  Encode : (file : List ℕ) → Mcg6Command
 
 -- `bricks=` and a number
 abbrev pub bricks_property : List ℕ → Option Property
@@ -133,16 +133,16 @@ encode_of (word ∷ file ∷ []) = encode_pair word file
 encode_of (word ∷ file ∷ third ∷ words) = None
 
 -- the graph6 text of that file, if there is one, and else that of a list
-abbrev pub command_or : (file : Option (List ℕ)) → Option ListCommand → Option Command
+abbrev pub command_or : (file : Option (List ℕ)) → Option ListCommand → Option Mcg6Command
 command_or (Some file) list = Some (Encode file)
 command_or None list = option_map Answer list
 
 -- what the words ask for; none if they match no row
-abbrev pub command_of : List (List ℕ) → Option Command
+abbrev pub command_of : List (List ℕ) → Option Mcg6Command
 command_of words = command_or (encode_of words) (list_command_of words)
 
 -- the name of the file of a command, if it has one
-abbrev pub file_of : Option Command → Option (List ℕ)
+abbrev pub file_of : Option Mcg6Command → Option (List ℕ)
 file_of None = None
 file_of (Some (Answer list)) = list.file
 file_of (Some (Encode file)) = Some file

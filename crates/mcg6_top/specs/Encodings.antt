@@ -4,7 +4,7 @@ use Rattle.std.specs.Prelude.{◌≡◌, ℕ, ◌≤◌, List, [], length, Optio
 use Rattle.mcg6_encoder.specs.from_outside.Common.{most_bytes}
 use Rattle.mcg6_reader.specs.declared.ending.BadLine.{BadLine}
 use Rattle.mcg6_reader.specs.Common.{Appended, IsKnownLeft}
-use Rattle.mcg6_encoder.specs.declared.ending.EncodeEnding.{EncodeEnding}
+use Rattle.mcg6_reader.specs.declared.ending.InputEnding.{InputEnding}
 use Rattle.mcg6_encoder.specs.Files.{IsBadFile, IsCutShort, IsEncoded}
 use Rattle.mcg6_encoder.specs.Reads.{ReadsThenWrites}
 use Rattle.mcg6_top.specs.Statuses.{status_encoded}
@@ -36,6 +36,6 @@ pub record EncodesSome (status : ListStatus) (left before now : Option (List ℕ
 
 -- the graph file was read first and then encoded, up to an ending with this status
 pub record ReadsFirstTo {S K : Type 0} (reads : S → Option (List ℕ) → S → Type 0) (written : K → Option (List ℕ)) (writes : K → List ℕ → ℕ → K → Type 0) (status : ListStatus) (source : S) (sink : K) (last_source : S) (last_sink : K) : Type 0 where
-  pub ending : EncodeEnding
+  pub ending : InputEnding
   pub of_status : status ≡ status_encoded ending
   pub order : ReadsThenWrites reads written writes ending source sink last_source last_sink

@@ -3,7 +3,7 @@
 -- Stated by: mcg6_top, theorems. Used by: mcg6_front_top.
 use Rattle.std.specs.Prelude.{◌≡◌, ℕ, List, [], ◌++◌, false, Option, Some, None}
 use Rattle.mcg6_encoder.specs.from_outside.Common.{HasPrinted, HasTaken, PrintState, ReadState}
-use Rattle.mcg6_top.specs.Commands.{Command, Answer, Encode, command_of, file_named_by}
+use Rattle.mcg6_top.specs.Commands.{Mcg6Command, Answer, Encode, command_of, file_named_by}
 use Rattle.mcg6_top.specs.Encodings.{EncodeOutcome}
 use Rattle.mcg6_top.specs.Outcomes.{ListOutcome}
 use Rattle.mcg6_top.specs.Runs.{ListRuns}
@@ -14,14 +14,14 @@ use Rattle.mcg6_top.specs.declared.status.ListStatus.TheVariants.{Usage}
 -- of this row, where these bytes were read and these printed, a run ends with this status: what was
 -- printed is what the row asks of the lines of the list that was read, or what it asks of the graph
 -- file; where the words match no row, nothing was read or printed
-abbrev pub RowGives : Option Command → ListStatus → (read printed : List ℕ) → Type 0
+abbrev pub RowGives : Option Mcg6Command → ListStatus → (read printed : List ℕ) → Type 0
 RowGives None status read printed = (status ≡ Usage) × (read ≡ []) × (printed ≡ [])
 RowGives (Some (Answer list)) status read printed = ListOutcome list.query list.at_bad read status printed
 RowGives (Some (Encode name)) status read printed = EncodeOutcome read status printed
 
 -- between two states such bytes were read, of what was opened before, and such bytes printed, and
 -- nothing else
-pub record HasListReport (row : Option Command) (status : ListStatus) (first last : ReadState) (before now : PrintState) : Type 0 where
+pub record HasListReport (row : Option Mcg6Command) (status : ListStatus) (first last : ReadState) (before now : PrintState) : Type 0 where
   pub read : List ℕ
   pub printed : List ℕ
   pub opened : last.name ≡ first.name

@@ -4,8 +4,8 @@ use Rattle.std.specs.Prelude.{◌≡◌, ◌⊎◌, ℕ, List, [], ◌∷◌, Op
 use Rattle.mcg6_lines.specs.declared.query.Query.{Query}
 use Rattle.mcg6_reader.specs.declared.ending.BadLine.{BadLine}
 use Rattle.line_text.specs.declared.faults.FaultKind.{FaultKind}
-use Rattle.mcg6_reader.specs.declared.ending.Ending.{Ending}
-use Rattle.mcg6_reader.specs.declared.ending.Ending.TheVariants as ending
+use Rattle.mcg6_reader.specs.declared.ending.InputEnding.{InputEnding}
+use Rattle.mcg6_reader.specs.declared.ending.InputEnding.TheVariants as ending
 use Rattle.mcg6_reader.specs.declared.place.LinePlace.{LinePlace}
 use Rattle.mcg6_reader.specs.Common.{lines_of, AllTold, BeginningTold, Reported, Reports, WholeTold, ToldToBad, CutShort, Appended, GivesOutput, IsKnownLeft, ReadsGave, first_place, IsStream}
 use Rattle.mcg6_top.specs.Listings.{IsBadLine, TellsLineOf, TellsOrSkips, ListStopsAt, SkipsLine, lacks_of}
@@ -17,12 +17,12 @@ use Rattle.mcg6_top.specs.declared.status.ListStatus.TheVariants.{Done, Usage, R
 
 -- what is written of a list of these bytes up to an ending: of each line what is asked of its
 -- graph, in order; of bad lines nothing, if the list goes on after them
-abbrev pub EndsWith : Query → AtBadLine → (bytes : List ℕ) → Ending → (output : List ℕ) → Type 0
+abbrev pub EndsWith : Query → AtBadLine → (bytes : List ℕ) → InputEnding → (output : List ℕ) → Type 0
 EndsWith query at_bad bytes ending output =
     GivesOutput (TellsOrSkips query at_bad) (ListStopsAt query at_bad) (lacks_of query) first_place (lines_of bytes) ending output
 
 -- the reports on the bad lines of the list that were skipped up to an ending, in order
-abbrev pub SkipsUpTo : Query → AtBadLine → (bytes : List ℕ) → Ending → (skipped : List BadLine) → Type 0
+abbrev pub SkipsUpTo : Query → AtBadLine → (bytes : List ℕ) → InputEnding → (skipped : List BadLine) → Type 0
 SkipsUpTo query at_bad bytes ending skipped =
     Reported (Reports (SkipsLine query at_bad)) (ListStopsAt query at_bad) (lacks_of query) first_place (lines_of bytes) ending skipped
 
@@ -64,21 +64,21 @@ pub record OutcomeOfRead {S : Type 0} (query : Query) (at_bad : AtBadLine) (read
 
 -- the list was answered while it was read, up to this ending
 abbrev pub StreamsTo :
-    {S K : Type 0} → Query → AtBadLine → (S → Option (List ℕ) → S → Type 0) → (K → Option (List ℕ)) → (K → List ℕ → ℕ → K → Type 0) → Ending →
+    {S K : Type 0} → Query → AtBadLine → (S → Option (List ℕ) → S → Type 0) → (K → Option (List ℕ)) → (K → List ℕ → ℕ → K → Type 0) → InputEnding →
     S → K → S → K → Type 0
 StreamsTo query at_bad reads written writes ending source sink last_source last_sink =
     IsStream (TellsOrSkips query at_bad) (ListStopsAt query at_bad) (lacks_of query) reads written writes ending source sink last_source last_sink
 
 -- the list was answered while it was read, up to an ending with this status
 pub record Streams {S K : Type 0} (query : Query) (at_bad : AtBadLine) (reads : S → Option (List ℕ) → S → Type 0) (written : K → Option (List ℕ)) (writes : K → List ℕ → ℕ → K → Type 0) (status : ListStatus) (source : S) (sink : K) (last_source : S) (last_sink : K) : Type 0 where
-  pub ending : Ending
+  pub ending : InputEnding
   pub skipped : List BadLine
   pub of_status : status ≡ status_after ending skipped
   pub none_skipped : at_bad ≡ Stop → skipped ≡ []
   pub stream : StreamsTo query at_bad reads written writes ending source sink last_source last_sink
 
 -- the bytes of a list settle that it ends so: nothing of the outside does
-abbrev pub IsSettledEnding : Ending → Type 0
+abbrev pub IsSettledEnding : InputEnding → Type 0
 IsSettledEnding ending.Done = Unit {0}
 IsSettledEnding (ending.Bad found) = Unit {0}
 IsSettledEnding ending.ReadFault = ⊥
@@ -93,7 +93,7 @@ HasAnswer query =
 
 -- the list has an end that its bytes settle, with an output and with reports on its bad lines
 pub record HasSettledEnd (query : Query) (at_bad : AtBadLine) (bytes : List ℕ) : Type 0 where
-  pub ending : Ending
+  pub ending : InputEnding
   pub skipped : List BadLine
   pub output : List ℕ
   pub settled : IsSettledEnding ending

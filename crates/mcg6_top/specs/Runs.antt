@@ -4,22 +4,22 @@
 use Rattle.std.specs.Prelude.{◌≡◌, ◌↔◌, ℕ, List, [], Option, Some, None}
 use Rattle.mcg6_encoder.specs.from_outside.Common.{Rose}
 use Rattle.mcg6_reader.specs.Common.{Appended, ReadsTold, Reports, TellsList, TellsRead}
-use Rattle.mcg6_reader.specs.declared.ending.Ending.TheVariants as ending
-use Rattle.mcg6_encoder.specs.declared.ending.EncodeEnding.{EncodeEnding}
-use Rattle.mcg6_encoder.specs.declared.ending.EncodeEnding.TheVariants as encoding
+use Rattle.mcg6_reader.specs.declared.ending.InputEnding.TheVariants as ending
+use Rattle.mcg6_reader.specs.declared.ending.InputEnding.{InputEnding}
+use Rattle.mcg6_reader.specs.declared.ending.InputEnding.TheVariants as encoding
 use Rattle.mcg6_encoder.specs.Files.{Encodes}
 use Rattle.mcg6_encoder.specs.Reads.{EncodesFile, ReadsThenWrites}
 use Rattle.mcg6_top.specs.Asked.{list_asked}
-use Rattle.mcg6_top.specs.Commands.{Command, ListCommand, Answer, Encode, command_of}
+use Rattle.mcg6_top.specs.Commands.{Mcg6Command, ListCommand, Answer, Encode, command_of}
 use Rattle.mcg6_top.specs.Encodings.{EncodeOutcome, EncodesSome, ReadsFirstTo}
 use Rattle.mcg6_top.specs.Listings.{TellsOrSkips, ListStopsAt, SkipsLine, lacks_of}
 use Rattle.mcg6_top.specs.Outcomes.{EndsWith, SkipsUpTo, ListOutcome, OutcomeOfRead, Streams, StreamsTo, TellsSome}
 use Rattle.mcg6_lines.specs.declared.query.Query.{Query}
 use Rattle.mcg6_top.specs.declared.command.AtBadLine.{AtBadLine}
 use Rattle.mcg6_top.specs.declared.command.AtBadLine.TheVariants.{Stop}
-use Rattle.mcg6_top.specs.declared.status.ListEnd.{ListEnd}
-use Rattle.mcg6_top.specs.declared.status.RunEnd.{RunEnd}
-use Rattle.mcg6_top.specs.declared.status.RunEnd.TheVariants.{Answered, Encoded}
+use Rattle.mcg6_top.specs.declared.status.ListEnding.{ListEnding}
+use Rattle.mcg6_top.specs.declared.status.ListRunEnding.{ListRunEnding}
+use Rattle.mcg6_top.specs.declared.status.ListRunEnding.TheVariants.{Answered, Encoded}
 use Rattle.mcg6_top.specs.declared.status.ListStatus.{ListStatus}
 use Rattle.mcg6_top.specs.declared.status.ListStatus.TheVariants.{Usage, ReadFault, WriteFault}
 
@@ -64,7 +64,7 @@ pub record ListRuns {S K : Type 0} (left : S → Option (List ℕ)) (faults : S 
 -- a list was answered, and ended so: what was written, and the reports on the bad lines that were
 -- skipped. The functions are those that tell of a source and of a sink
 pub record AnswersList {S K : Type 0} (query : Query) (at_bad : AtBadLine) (left : S → Option (List ℕ)) (faults : S → ℕ) (reads : S → Option (List ℕ) → S → Type 0)
-    (written : K → Option (List ℕ)) (writes : K → List ℕ → ℕ → K → Type 0) (sink_faults : K → ℕ) (ended : ListEnd)
+    (written : K → Option (List ℕ)) (writes : K → List ℕ → ℕ → K → Type 0) (sink_faults : K → ℕ) (ended : ListEnding)
     (first last : S) (before now : K) : Type 0 where
   -- a fault of the outside comes only where its count rose in this run
   pub read_fault : ended.ending ≡ ending.ReadFault → Rose (faults first) (faults last)
@@ -89,7 +89,7 @@ pub record AnswersList {S K : Type 0} (query : Query) (at_bad : AtBadLine) (left
 
 -- a graph file was encoded, and that ended so
 pub record AnswersFile {S K : Type 0} (left : S → Option (List ℕ)) (faults : S → ℕ) (reads : S → Option (List ℕ) → S → Type 0)
-    (written : K → Option (List ℕ)) (writes : K → List ℕ → ℕ → K → Type 0) (sink_faults : K → ℕ) (ended : EncodeEnding)
+    (written : K → Option (List ℕ)) (writes : K → List ℕ → ℕ → K → Type 0) (sink_faults : K → ℕ) (ended : InputEnding)
     (first last : S) (before now : K) : Type 0 where
   -- a fault of the outside comes only where its count rose in this run
   pub read_fault : ended ≡ encoding.ReadFault → Rose (faults first) (faults last)
@@ -102,13 +102,13 @@ pub record AnswersFile {S K : Type 0} (left : S → Option (List ℕ)) (faults :
   pub reads_first : ReadsThenWrites reads written writes ended first before last now
 
 -- what a run was asked for that ended so
-abbrev pub command_at : RunEnd → Command
+abbrev pub command_at : ListRunEnding → Mcg6Command
 command_at (Answered list end) = Answer (list_asked list)
 command_at (Encoded file ending) = Encode file.now
 
 -- what a run made of a source and a sink that ended so: the list was answered, or the file encoded
 abbrev pub Performs : {S K : Type 0} → (S → Option (List ℕ)) → (S → ℕ) → (S → Option (List ℕ) → S → Type 0) → (K → Option (List ℕ)) →
-    (K → List ℕ → ℕ → K → Type 0) → (K → ℕ) → RunEnd → (first last : S) → (before now : K) → Type 0
+    (K → List ℕ → ℕ → K → Type 0) → (K → ℕ) → ListRunEnding → (first last : S) → (before now : K) → Type 0
 Performs left faults reads written writes sink_faults (Answered list end) first last before now =
     AnswersList list.query list.at_bad left faults reads written writes sink_faults end first last before now
 Performs left faults reads written writes sink_faults (Encoded file ending) first last before now =
@@ -116,12 +116,12 @@ Performs left faults reads written writes sink_faults (Encoded file ending) firs
 
 -- the same of a run that ended so; with no end the words match no row
 pub record ListRunsTo {S K : Type 0} (left : S → Option (List ℕ)) (faults : S → ℕ) (reads : S → Option (List ℕ) → S → Type 0)
-    (written : K → Option (List ℕ)) (writes : K → List ℕ → ℕ → K → Type 0) (sink_faults : K → ℕ) (words : List (List ℕ)) (ended : Option RunEnd)
+    (written : K → Option (List ℕ)) (writes : K → List ℕ → ℕ → K → Type 0) (sink_faults : K → ℕ) (words : List (List ℕ)) (ended : Option ListRunEnding)
     (first last : S) (before now : K) : Type 0 where
   -- there is no end exactly if the words match no row, and then nothing is read or written
   pub usage : (ended ≡ None) ↔ (command_of words ≡ None)
   pub unread : ended ≡ None → last ≡ first
   pub nothing : ended ≡ None → now ≡ before
   -- else it is the end of what the words ask for, and that was done
-  pub command : (at : RunEnd) → ended ≡ Some at → command_of words ≡ Some (command_at at)
-  pub performs : (at : RunEnd) → ended ≡ Some at → Performs left faults reads written writes sink_faults at first last before now
+  pub command : (at : ListRunEnding) → ended ≡ Some at → command_of words ≡ Some (command_at at)
+  pub performs : (at : ListRunEnding) → ended ≡ Some at → Performs left faults reads written writes sink_faults at first last before now

@@ -1,13 +1,12 @@
 -- The statuses, their codes, and the endings of runs.
 -- Stated by: mcg6_top, mcg6_front_top.
 use Rattle.std.specs.Prelude.{ℕ, List, [], ◌∷◌, Option, Some, None}
-use Rattle.mcg6_reader.specs.declared.ending.Ending.{Ending}
-use Rattle.mcg6_reader.specs.declared.ending.Ending.TheVariants as ending
+use Rattle.mcg6_reader.specs.declared.ending.InputEnding.{InputEnding}
+use Rattle.mcg6_reader.specs.declared.ending.InputEnding.TheVariants as ending
 use Rattle.mcg6_reader.specs.declared.ending.BadLine.{BadLine}
-use Rattle.mcg6_encoder.specs.declared.ending.EncodeEnding.{EncodeEnding}
-use Rattle.mcg6_encoder.specs.declared.ending.EncodeEnding.TheVariants as encoding
-use Rattle.mcg6_top.specs.declared.status.RunEnd.{RunEnd}
-use Rattle.mcg6_top.specs.declared.status.RunEnd.TheVariants.{Answered, Encoded}
+use Rattle.mcg6_reader.specs.declared.ending.InputEnding.TheVariants as encoding
+use Rattle.mcg6_top.specs.declared.status.ListRunEnding.{ListRunEnding}
+use Rattle.mcg6_top.specs.declared.status.ListRunEnding.TheVariants.{Answered, Encoded}
 use Rattle.mcg6_top.specs.declared.status.ListStatus.{ListStatus}
 use Rattle.mcg6_top.specs.declared.status.ListStatus.TheVariants.{Done, Usage, ReadFault, BadInput, WriteFault, Memory}
 
@@ -21,7 +20,7 @@ code_of WriteFault = 5
 code_of Memory = 6
 
 -- the status of a list that ended so, with these reports on bad lines that were skipped
-abbrev pub status_after : Ending → List BadLine → ListStatus
+abbrev pub status_after : InputEnding → List BadLine → ListStatus
 status_after ending.Done [] = Done
 status_after ending.Done (found ∷ founds) = BadInput
 status_after (ending.Bad found) founds = BadInput
@@ -30,19 +29,19 @@ status_after ending.WriteFault founds = WriteFault
 status_after ending.Memory founds = Memory
 
 -- the status of a graph file whose encoding ended so
-abbrev pub status_encoded : EncodeEnding → ListStatus
-status_encoded encoding.Encoded = Done
+abbrev pub status_encoded : InputEnding → ListStatus
+status_encoded encoding.Done = Done
 status_encoded (encoding.Bad found) = BadInput
 status_encoded encoding.ReadFault = ReadFault
 status_encoded encoding.WriteFault = WriteFault
 status_encoded encoding.Memory = Memory
 
 -- the status of a run that ended so
-abbrev pub status_at : RunEnd → ListStatus
+abbrev pub status_at : ListRunEnding → ListStatus
 status_at (Answered list end) = status_after end.ending end.skipped.items
 status_at (Encoded file ending) = status_encoded ending
 
 -- the same; with no end the words matched no row
-abbrev pub status_in : Option RunEnd → ListStatus
+abbrev pub status_in : Option ListRunEnding → ListStatus
 status_in None = Usage
 status_in (Some end) = status_at end

@@ -21,7 +21,7 @@ pub struct ListCommand<'a> {
 
 /// What the words ask for.
 #[derive(Clone, Copy)]
-pub enum Command<'a> {
+pub enum Mcg6Command<'a> {
     /// Something of each graph of a list.
     Answer { list: ListCommand<'a> },
     /// The graph6 text of the graph in the file of that name.

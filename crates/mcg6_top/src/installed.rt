@@ -5,16 +5,16 @@ ghost use Rattle.mcg6_top.specs.Common.{EndsOn};
 
 use crate::line::CommandLine;
 use crate::running::run;
-use arguments::{Arguments, Refusal, read_arguments};
+use arguments::{ArgumentFault, Arguments, read_arguments};
 use mcg6_encoder::outside::{InSource, OutSink, TracedReader};
 use std::alloc::Global;
 use std::rt::{Env, Files};
 
 /// How the program ended, with what the runtime gave and what it took.
 #[derive(Drop)]
-pub struct ProgramEnd<'a, R: Files + Input + Print> {
+pub struct EndedListRun<'a, R: Files + Input + Print> {
     /// The words of the command line, with what the runtime gave, or why they were not read.
-    pub read: Result<Arguments, Refusal>,
+    pub read: Result<Arguments, ArgumentFault>,
     /// The exit status.
     pub code: u8,
     /// The file that was opened, or the standard input, after the run, with the bytes that it gave.
@@ -29,7 +29,7 @@ pub struct ProgramEnd<'a, R: Files + Input + Print> {
 ///
 /// What it was given and what it printed are values of the result, the words that the runtime gave
 /// among them.
-pub fn program<R: Files + Input + Print + Env>(runtime: &R, alloc: Global) -> ProgramEnd<'_, R>
+pub fn program<R: Files + Input + Print + Env>(runtime: &R, alloc: Global) -> EndedListRun<'_, R>
     ensures ends { IfOk result.read (λ read. IsSomeAnd result.source
         (λ source. EndsOn read.asked.words result.code source result.sink)) }
     ensures unopened { IfErr result.read (λ _. result.source ≡ None) }
@@ -46,7 +46,7 @@ pub fn program<R: Files + Input + Print + Env>(runtime: &R, alloc: Global) -> Pr
         }
         Err(refusal) => (refusal.code(), None),
     };
-    ProgramEnd {
+    EndedListRun {
         read,
         code,
         source,

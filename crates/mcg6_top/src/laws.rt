@@ -4,18 +4,18 @@ ghost use Rattle.mcg6_lines.specs.Alike.{AreAlike, is_free};
 ghost use Rattle.mcg6_lines.specs.declared.query.Query.{Query};
 ghost use Rattle.mcg6_reader.specs.Common.{HasOneFault, HasOneOutputPerLine, IsClosedText, TellsApart, lines_of};
 ghost use Rattle.mcg6_reader.specs.declared.ending.BadLine.{BadLine};
-ghost use Rattle.mcg6_reader.specs.declared.ending.Ending.{Ending};
-ghost use Rattle.mcg6_reader.specs.declared.ending.Ending.TheVariants as ending;
+ghost use Rattle.mcg6_reader.specs.declared.ending.InputEnding.{InputEnding};
+ghost use Rattle.mcg6_reader.specs.declared.ending.InputEnding.TheVariants as ending;
 ghost use Rattle.mcg6_reader.specs.declared.place.LinePlace.{LinePlace};
 ghost use Rattle.mcg6_top.specs.Common.{AreAlikeOutputs, EndsWith, IsBadLine, ListOutcome, SkipsUpTo, TellsLineOf, ending_behind, found_behind, is_by_line, opens_with_header};
 ghost use Rattle.mcg6_top.specs.declared.command.AtBadLine.{AtBadLine};
 ghost use Rattle.mcg6_top.specs.declared.status.ListStatus.{ListStatus};
 ghost use Rattle.mcg6_top.specs.declared.status.ListStatus.TheVariants.{BadInput, Done};
 
-/// Whatever is asked of the graphs of a list, each line has one output, or it is bad with one
-/// kind of a first fault, and no line is both. For `matching`, which may write any maximum
-/// matching, two outputs of a line have in common what `AreAlike` says: the graph6 text, the size of
-/// the matching, and the Gallai-Edmonds sets.
+/// Whatever is asked of the graphs of a list, each line has one output, or it is bad with one kind
+/// of a first fault, and no line is both. For `matching`, which may write any maximum matching, two
+/// outputs of a line have in common what `AreAlike` says: the graph6 text, the size of the
+/// matching, and the Gallai-Edmonds sets.
 #[tactic(auto, using(crate::proofs::OneOutput::one_fault_each, crate::proofs::OneOutput::told_or_bad))]
 pub fn one_line_law()
     ensures output { (query : Query) → IsFalse (is_free query)
@@ -31,7 +31,7 @@ pub fn one_line_law()
 /// number of the bad line at which it ends and the kind of its first fault. For `matching` two
 /// outputs consist of outputs for the same lines, and those are alike line by line. The other
 /// endings come of the outside.
-pub fn one_output_law()
+pub fn one_list_output_law()
     ensures status { (query : Query) (at_bad : AtBadLine) (bytes a b : List ℕ)
         → ListOutcome query at_bad bytes Done a → ListOutcome query at_bad bytes BadInput b → ⊥ }
     ensures done { (query : Query) (at_bad : AtBadLine) (bytes a b : List ℕ)
@@ -54,9 +54,9 @@ pub fn one_output_law()
 /// A list for `kinds`, `matching` or `select` may be split after a line feed, if the second part
 /// does not begin with a line that is just the header. If the first part has no bad line, the
 /// output of the list is that of the first part and then that of the second, and its status is that
-/// of the second part. The same holds if bad lines of the first part are skipped, for the output and for the
-/// ending. In the list, the number of a bad line of the second part is greater by the number of
-/// lines of the first part.
+/// of the second part. The same holds if bad lines of the first part are skipped, for the output
+/// and for the ending. In the list, the number of a bad line of the second part is greater by the
+/// number of lines of the first part.
 pub fn split_law()
     ensures outcome { (query : Query) (at_bad : AtBadLine) (first second : List ℕ)
         → IsTrue (is_by_line query) → IsClosedText first → IsFalse (opens_with_header (lines_of second))
@@ -65,13 +65,13 @@ pub fn split_law()
         → ListOutcome query at_bad (first ++ second) status (a ++ b) }
     ensures ends { (query : Query) (at_bad : AtBadLine) (first second : List ℕ)
         → IsTrue (is_by_line query) → IsClosedText first → IsFalse (opens_with_header (lines_of second))
-        → (last : Ending) (a b : List ℕ) → EndsWith query at_bad first ending.Done a
+        → (last : InputEnding) (a b : List ℕ) → EndsWith query at_bad first ending.Done a
         → EndsWith query at_bad second last b
         → let before = length (lines_of first) in
         EndsWith query at_bad (first ++ second) (ending_behind before last) (a ++ b) }
     ensures skips { (query : Query) (at_bad : AtBadLine) (first second : List ℕ)
         → IsTrue (is_by_line query) → IsClosedText first → IsFalse (opens_with_header (lines_of second))
-        → (last : Ending) (a b : List BadLine) → SkipsUpTo query at_bad first ending.Done a
+        → (last : InputEnding) (a b : List BadLine) → SkipsUpTo query at_bad first ending.Done a
         → SkipsUpTo query at_bad second last b
         → let before = length (lines_of first) in
         SkipsUpTo query at_bad (first ++ second) (ending_behind before last)

@@ -10,10 +10,10 @@
 //! `IsBadLine` (what answers one line), `lacks_of` (what a list lacks), and `ListOutcome` and
 //! `EncodeOutcome`, which tie the bytes that are read, the status and the output together.
 //! `run_to_ending` also returns what is found of the first bad line; one list has one status and
-//! one output, unless memory runs out or reading or writing fails (`one_output_law`). `program` is
-//! the whole program: `EndsOn` says what it was given, what it printed, and its exit status. Depends
-//! on `mcg6_lines`, `mcg6_reader`, `mcg6_encoder`, `line_text` for numbers, `arguments`, and
-//! `outside` for the source and the sink.
+//! one output, unless memory runs out or reading or writing fails (`one_list_output_law`).
+//! `program` is the whole program: `EndsOn` says what it was given, what it printed, and its exit
+//! status. Depends on `mcg6_lines`, `mcg6_reader`, `mcg6_encoder`, `line_text` for numbers,
+//! `arguments`, and `outside` for the source and the sink.
 #![tactic(auto)]
 
 mod command;
@@ -25,9 +25,9 @@ mod plan;
 mod running;
 mod status;
 
-pub use command::{AtBadLine, Command, ListCommand};
-pub use installed::{ProgramEnd, program};
-pub use laws::{one_line_law, one_output_law, split_law};
+pub use command::{AtBadLine, ListCommand, Mcg6Command};
+pub use installed::{EndedListRun, program};
+pub use laws::{one_line_law, one_list_output_law, split_law};
 pub use line::CommandLine;
 pub use running::{run, run_to_ending};
-pub use status::{ListEnd, ListStatus, RunEnd, status_of};
+pub use status::{ListEnding, ListRunEnding, ListStatus, status_of};

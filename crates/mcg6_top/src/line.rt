@@ -3,7 +3,7 @@ ghost use Rattle.std.specs.Prelude.{◌≡◌, map, string_bytes};
 ghost use Rattle.std.specs.Option.{option_map};
 ghost use Rattle.mcg6_top.specs.Common.{asked, command_of, file_named_by, text_of};
 
-use crate::command::Command;
+use crate::command::Mcg6Command;
 use crate::plan::command_of;
 use std::marker::Model;
 
@@ -11,7 +11,7 @@ use std::marker::Model;
 #[derive(Drop)]
 pub struct CommandLine<'a> {
     words: &'a [String],
-    command: Option<Command<'a>>,
+    command: Option<Mcg6Command<'a>>,
 }
 
 impl<'a> Model for CommandLine<'a> {
@@ -44,7 +44,7 @@ impl<'a> CommandLine<'a> {
     }
 
     /// What the words ask for; `None` if and only if they match no row.
-    pub fn command(&self) -> Option<Command<'a>>
+    pub fn command(&self) -> Option<Mcg6Command<'a>>
         ensures { option_map asked result ≡ command_of self.now }
     {
         self.command
@@ -56,8 +56,8 @@ impl<'a> CommandLine<'a> {
         ensures { text_of result ≡ file_named_by self.now }
     {
         match self.command {
-            Some(Command::Encode { file }) => Some(file),
-            Some(Command::Answer { list }) => list.file,
+            Some(Mcg6Command::Encode { file }) => Some(file),
+            Some(Mcg6Command::Answer { list }) => list.file,
             None => None,
         }
     }

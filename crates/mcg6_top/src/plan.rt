@@ -3,7 +3,7 @@ ghost use Rattle.std.specs.Prelude.{◌≡◌, ◌∷◌, map, string_bytes};
 ghost use Rattle.std.specs.Option.{option_map};
 ghost use Rattle.mcg6_top.specs.Common.{asked, list_asked, command_of, list_command_of, encode_of, encode_pair, property_named, bricks_property, braces_property, counted_property, query_named, leaves_named, select_named, pair_named, may_skip, asks_skip, command_with_word, command_with_two, command_with, command_if, text_of};
 
-use crate::command::{AtBadLine, Command, ListCommand};
+use crate::command::{AtBadLine, ListCommand, Mcg6Command};
 use line_text::number;
 use mcg6_lines::decomposer::NamedOrder;
 use mcg6_lines::{Property, Query};
@@ -230,14 +230,14 @@ fn encode_of(words: &[String]) -> Option<&str>
 }
 
 /// What the words ask for. Takes no memory.
-pub fn command_of(words: &[String]) -> Option<Command<'_>>
+pub fn command_of(words: &[String]) -> Option<Mcg6Command<'_>>
     ensures { option_map asked result ≡ command_of (map string_bytes words.now) }
 {
     match encode_of(words) {
-        Some(file) => Some(Command::Encode { file }),
+        Some(file) => Some(Mcg6Command::Encode { file }),
         None => {
             let list = list_command_of(words)?;
-            Some(Command::Answer { list })
+            Some(Mcg6Command::Answer { list })
         }
     }
 }

@@ -2,13 +2,13 @@
 ghost use Rattle.std.specs.Prelude.{◌≡◌};
 ghost use Rattle.mcg6_top.specs.Common.{AnswersFile, AnswersList, ListRuns, ListRunsTo, Performs, asked, command_at};
 
-use crate::command::Command;
+use crate::command::Mcg6Command;
 use crate::line::CommandLine;
 use crate::lister::Lister;
-use crate::status::{ListEnd, ListStatus, RunEnd, status_of};
+use crate::status::{ListEnding, ListRunEnding, ListStatus, status_of};
+use mcg6_encoder::encode;
 use mcg6_encoder::outside::{Sink, Source};
-use mcg6_encoder::{EncodeEnding, encode};
-use mcg6_reader::tell_all;
+use mcg6_reader::{InputEnding, tell_all};
 use std::alloc::Global;
 
 // Answers the list that is left of the source.
@@ -17,17 +17,17 @@ fn answer_list<S: Source, K: Sink>(
     lister: &Lister,
     source: &mut S,
     sink: &mut K,
-) -> ListEnd
+) -> ListEnding
     ensures { AnswersList lister.now.query lister.now.at_bad S.left S.faults S.reads K.written
         K.writes K.faults result source.old source.new sink.old sink.new }
 {
     let mut skipped = Vec::new(alloc);
     let ending = tell_all(alloc, lister, source, sink, &mut skipped);
-    ListEnd { ending, skipped }
+    ListEnding { ending, skipped }
 }
 
 // Encodes the graph file that is left of the source.
-fn encode_file<S: Source, K: Sink>(alloc: Global, source: &mut S, sink: &mut K) -> EncodeEnding
+fn encode_file<S: Source, K: Sink>(alloc: Global, source: &mut S, sink: &mut K) -> InputEnding
     ensures { AnswersFile S.left S.faults S.reads K.written K.writes K.faults result source.old
         source.new sink.old sink.new }
 {
@@ -37,24 +37,24 @@ fn encode_file<S: Source, K: Sink>(alloc: Global, source: &mut S, sink: &mut K) 
 // Does what is asked for.
 fn perform<'a, S: Source, K: Sink>(
     alloc: Global,
-    command: Command<'a>,
+    command: Mcg6Command<'a>,
     source: &mut S,
     sink: &mut K,
-) -> RunEnd<'a>
+) -> ListRunEnding<'a>
     ensures command { command_at result ≡ asked command.entry }
     ensures performs { Performs S.left S.faults S.reads K.written K.writes K.faults result source.old
         source.new sink.old sink.new }
 {
     match command {
-        Command::Answer { list } => {
+        Mcg6Command::Answer { list } => {
             let query = list.query;
             let at_bad = list.at_bad;
             let end = answer_list(alloc, &Lister { query, at_bad }, source, sink);
-            RunEnd::Answered { list, end }
+            ListRunEnding::Answered { list, end }
         }
-        Command::Encode { file } => {
+        Mcg6Command::Encode { file } => {
             let ending = encode_file(alloc, source, sink);
-            RunEnd::Encoded { file, ending }
+            ListRunEnding::Encoded { file, ending }
         }
     }
 }
@@ -69,7 +69,7 @@ pub fn run_to_ending<'a, S: Source, K: Sink>(
     line: &CommandLine<'a>,
     source: &mut S,
     sink: &mut K,
-) -> Option<RunEnd<'a>>
+) -> Option<ListRunEnding<'a>>
     ensures { ListRunsTo S.left S.faults S.reads K.written K.writes K.faults line.now result
         source.old source.new sink.old sink.new }
 {

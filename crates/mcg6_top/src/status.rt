@@ -3,8 +3,7 @@ ghost use Rattle.std.specs.Prelude.{◌≡◌, ◌≢◌};
 ghost use Rattle.mcg6_top.specs.Common.{code_of, status_after, status_encoded, status_at};
 
 use crate::command::ListCommand;
-use mcg6_encoder::EncodeEnding;
-use mcg6_reader::{BadLine, Ending};
+use mcg6_reader::{BadLine, InputEnding};
 
 /// How a run ended. The codes are those of `mcg`, which has one more, 1.
 #[derive(Clone, Copy, Debug, PartialEq, Eq)]
@@ -37,24 +36,30 @@ impl ListStatus {
 
 /// How a list ended.
 #[derive(Debug, PartialEq, Eq, Drop)]
-pub struct ListEnd {
-    pub ending: Ending,
+pub struct ListEnding {
+    pub ending: InputEnding,
     /// A report on each bad line that was skipped, in order.
     pub skipped: Vec<BadLine>,
 }
 
 /// How a run ended, and what it was asked for.
 #[derive(Drop)]
-pub enum RunEnd<'a> {
+pub enum ListRunEnding<'a> {
     /// A list was answered.
-    Answered { list: ListCommand<'a>, end: ListEnd },
+    Answered {
+        list: ListCommand<'a>,
+        end: ListEnding,
+    },
     /// The graph in the file of that name was encoded.
-    Encoded { file: &'a str, ending: EncodeEnding },
+    Encoded {
+        file: &'a str,
+        ending: InputEnding,
+    },
 }
 
 // The status of a list that was processed to its end, with these reports on bad lines.
 fn status_of_whole(skipped: &[BadLine]) -> ListStatus
-    ensures { result ≡ status_after Ending.Done skipped.now }
+    ensures { result ≡ status_after InputEnding.Done skipped.now }
 {
     match skipped.split_first() {
         None => ListStatus::Done,
@@ -63,37 +68,37 @@ fn status_of_whole(skipped: &[BadLine]) -> ListStatus
 }
 
 // The status of a list with that end.
-fn status_of_list(end: &ListEnd) -> ListStatus
+fn status_of_list(end: &ListEnding) -> ListStatus
     ensures { result ≡ status_after end.now.ending end.now.skipped.items }
 {
     match &end.ending {
-        Ending::Done => status_of_whole(&end.skipped),
-        Ending::Bad { .. } => ListStatus::BadInput,
-        Ending::ReadFault => ListStatus::ReadFault,
-        Ending::WriteFault => ListStatus::WriteFault,
-        Ending::Memory => ListStatus::Memory,
+        InputEnding::Done => status_of_whole(&end.skipped),
+        InputEnding::Bad { .. } => ListStatus::BadInput,
+        InputEnding::ReadFault => ListStatus::ReadFault,
+        InputEnding::WriteFault => ListStatus::WriteFault,
+        InputEnding::Memory => ListStatus::Memory,
     }
 }
 
 // The status of a graph file whose encoding ended so.
-fn status_of_file(ending: &EncodeEnding) -> ListStatus
+fn status_of_file(ending: &InputEnding) -> ListStatus
     ensures { result ≡ status_encoded ending.now }
 {
     match ending {
-        EncodeEnding::Encoded => ListStatus::Done,
-        EncodeEnding::Bad { .. } => ListStatus::BadInput,
-        EncodeEnding::ReadFault => ListStatus::ReadFault,
-        EncodeEnding::WriteFault => ListStatus::WriteFault,
-        EncodeEnding::Memory => ListStatus::Memory,
+        InputEnding::Done => ListStatus::Done,
+        InputEnding::Bad { found: _ } => ListStatus::BadInput,
+        InputEnding::ReadFault => ListStatus::ReadFault,
+        InputEnding::WriteFault => ListStatus::WriteFault,
+        InputEnding::Memory => ListStatus::Memory,
     }
 }
 
 /// The status of a run with that end. Takes no memory.
-pub fn status_of(end: &RunEnd<'_>) -> ListStatus
+pub fn status_of(end: &ListRunEnding<'_>) -> ListStatus
     ensures { result ≡ status_at end.now }
 {
     match end {
-        RunEnd::Answered { end, .. } => status_of_list(end),
-        RunEnd::Encoded { ending, .. } => status_of_file(ending),
+        ListRunEnding::Answered { end, .. } => status_of_list(end),
+        ListRunEnding::Encoded { ending, .. } => status_of_file(ending),
     }
 }

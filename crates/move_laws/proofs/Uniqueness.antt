@@ -54,8 +54,8 @@ moves_pair_law g s t m is ds proper e dt = move_pairs g s t m (singles_stage g i
 pub exposing_law : (g : Graph) (s : Shape) (y : List ℕ) → IsGraph g → IsDerivation g s → IsCutAt g (singles g.order) y → (ms : List PlainMove) × (a : Shape) × (b : Shape) × TurnsThrough g s ms (cut y a b) × (length ms + 2 ≤ 3 * cut_count s)
 exposing_law g s y is ds c = expose_through g s y is (rising-derivation_at g (singles g.order) s ds.derives) ds c.set c
 
-pub uniqueness_law : (g : Graph) (s t : Shape) → IsGraph g → IsDerivation g s → IsDerivation g t → (ms : List PlainMove) × TurnsThrough g s ms t × (length ms ≤ 5 * (cut_count s * cut_count s))
-uniqueness_law g s t is ds dt = compare_through g s t is (rising-derivation_at g (singles g.order) s ds.derives) ds (rising-derivation_at g (singles g.order) t dt.derives) dt
+pub turning_law : (g : Graph) (s t : Shape) → IsGraph g → IsDerivation g s → IsDerivation g t → (ms : List PlainMove) × TurnsThrough g s ms t × (length ms ≤ 5 * (cut_count s * cut_count s))
+turning_law g s t is ds dt = compare_through g s t is (rising-derivation_at g (singles g.order) s ds.derives) ds (rising-derivation_at g (singles g.order) t dt.derives) dt
 
 pub pairing_law : (g : Graph) (s t : Shape) → IsGraph g → IsDerivation g s → IsDerivation g t → (maps : List PlainLeafMap) × IsPairing g (leaves g.order s) (leaves g.order t) maps
 pairing_law g s t is ds dt =

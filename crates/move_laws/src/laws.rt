@@ -102,7 +102,7 @@ pub fn exposing_law()
 /// Uniqueness (Lovász 1987): of two derivations of a graph the first, with c cuts, can be turned
 /// into the second through derivations, by at most 5 c * c moves, and the leaves of the two are
 /// paired.
-pub fn uniqueness_law()
+pub fn turning_law()
     ensures turns { (g : Graph) (s t : Shape) → IsGraph g → IsDerivation g s → IsDerivation g t →
         (ms : List PlainMove) × TurnsThrough g s ms t ×
         (length ms ≤ 5 * (cut_count s * cut_count s)) }

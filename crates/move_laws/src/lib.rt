@@ -2,7 +2,7 @@
 //!
 //! Any two tight cut decompositions of a matching covered graph have the same leaves, up to
 //! multiplicities of edges (Lovász 1987). Here this is proved by the moves Rotate and Switch of
-//! `tree_core`: `laws::uniqueness_law` turns any derivation into any other through derivations, by
+//! `tree_core`: `laws::turning_law` turns any derivation into any other through derivations, by
 //! few moves, and `laws::moves_pair_law` says that the maps of a proper move pair the leaves
 //! (`IsPairing`), partners being the same leaf by names of blocks (`IsSameLeaf`).
 //!

@@ -9,7 +9,8 @@ ghost use Rattle.move_text.specs.Writing.{IsWritable};
 use crate::move_words::{is_rotate, is_switch, read_path, read_vertices};
 use std::alloc::Global;
 use tree_text::line_text::{
-    FaultKind, LineFormat, Refusal, TextFault, has_form, has_out_of_range, number, read_text, word,
+    FaultKind, LineFormat, RuleFault, TextFault, has_form, has_out_of_range, number, read_text,
+    word,
 };
 use tree_text::shores::{rise, shore_of};
 use tree_text::tree_core::{Move, Moves};
@@ -25,24 +26,24 @@ struct MoveFormat {
     ghost few: { order ≤ 128 },
 }
 
-fn read_header(alloc: Global, n: u32, words: &[&[u8]]) -> Result<Moves, Refusal<FaultKind>>
+fn read_header(alloc: Global, n: u32, words: &[&[u8]]) -> Result<Moves, RuleFault<FaultKind>>
     ensures { Gives moves_of result (moves_header n (texts_of words.now)) }
 {
     if !has_form(words, 3, &["m", "mcg"]) {
-        return Err(Refusal::Fault(FaultKind::Header));
+        return Err(RuleFault::Fault(FaultKind::Header));
     }
     let Some(order) = number(word(words, 2)) else {
-        return Err(Refusal::Fault(FaultKind::Number));
+        return Err(RuleFault::Fault(FaultKind::Number));
     };
     if order != n {
-        return Err(Refusal::Fault(FaultKind::Header));
+        return Err(RuleFault::Fault(FaultKind::Header));
     }
     Ok(Moves::new(alloc))
 }
 
 // The sets of a Switch, by their words.
 #[tactic(auto, using(tree_text::proofs::ShoreLists::rising_shore))]
-fn read_sets(format: &MoveFormat, u: &[u8], v: &[u8]) -> Result<(VSet, VSet), Refusal<FaultKind>>
+fn read_sets(format: &MoveFormat, u: &[u8], v: &[u8]) -> Result<(VSet, VSet), RuleFault<FaultKind>>
     requires { format.now.order ≤ MOST_VERTICES }
     ensures { (moves : List PlainMove) (path : List ℕ) →
         Gives (λ sets. moves ++ switch_at (path_of path) sets.0 sets.1 ∷ []) result
@@ -51,13 +52,13 @@ fn read_sets(format: &MoveFormat, u: &[u8], v: &[u8]) -> Result<(VSet, VSet), Re
     let first = read_vertices(format.alloc, u)?;
     let second = read_vertices(format.alloc, v)?;
     let (Some(u), Some(v)) = (first, second) else {
-        return Err(Refusal::Fault(FaultKind::Number));
+        return Err(RuleFault::Fault(FaultKind::Number));
     };
     if has_out_of_range(format.order, &u) || has_out_of_range(format.order, &v) {
-        return Err(Refusal::Fault(FaultKind::Range));
+        return Err(RuleFault::Fault(FaultKind::Range));
     }
     if !rise(&u) || !rise(&v) {
-        return Err(Refusal::Fault(FaultKind::NotRising));
+        return Err(RuleFault::Fault(FaultKind::NotRising));
     }
     Ok((shore_of(&u), shore_of(&v)))
 }
@@ -69,7 +70,7 @@ fn read_switch(
     path: &[u8],
     u: &[u8],
     v: &[u8],
-) -> Result<(), Refusal<FaultKind>>
+) -> Result<(), RuleFault<FaultKind>>
     requires { format.now.order ≤ MOST_VERTICES }
     ensures { Gives (λ _. moves_of moves.new) result
         (switch_line format.now.order (moves_of moves.old) path.now u.now v.now) }
@@ -88,13 +89,13 @@ fn read_move(
     format: &MoveFormat,
     moves: &mut Moves,
     words: &[&[u8]],
-) -> Result<(), Refusal<FaultKind>>
+) -> Result<(), RuleFault<FaultKind>>
     requires { format.now.order ≤ MOST_VERTICES }
     ensures { Gives (λ _. moves_of moves.new) result
         (move_line format.now.order (moves_of moves.old) (texts_of words.now)) }
 {
     if moves.len() >= MOST_MOVES {
-        return Err(Refusal::Fault(FaultKind::Limit));
+        return Err(RuleFault::Fault(FaultKind::Limit));
     }
     if is_rotate(words) {
         let path = read_path(format.alloc, word(words, 1))?;
@@ -105,7 +106,7 @@ fn read_move(
         let (path, u, v) = (word(words, 1), word(words, 2), word(words, 3));
         return read_switch(format, moves, path, u, v);
     }
-    Err(Refusal::Fault(FaultKind::Word))
+    Err(RuleFault::Fault(FaultKind::Word))
 }
 
 impl LineFormat for MoveFormat {
@@ -125,17 +126,17 @@ impl LineFormat for MoveFormat {
 
     ghost rules = { λ format. move_format format.order };
 
-    fn header(&self, words: &[&[u8]]) -> Result<Moves, Refusal<FaultKind>> {
+    fn header(&self, words: &[&[u8]]) -> Result<Moves, RuleFault<FaultKind>> {
         read_header(self.alloc, self.order, words)
     }
 
-    fn line(&self, body: Moves, words: &[&[u8]]) -> Result<Moves, Refusal<FaultKind>> {
+    fn line(&self, body: Moves, words: &[&[u8]]) -> Result<Moves, RuleFault<FaultKind>> {
         let mut moves = body;
         read_move(self, &mut moves, words)?;
         Ok(moves)
     }
 
-    fn close(&self, body: Moves) -> Result<Moves, Refusal<FaultKind>> {
+    fn close(&self, body: Moves) -> Result<Moves, RuleFault<FaultKind>> {
         Ok(body)
     }
 

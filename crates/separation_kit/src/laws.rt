@@ -6,7 +6,7 @@ ghost use Rattle.separation_kit.specs.Common.{separation_cuts, separation_shores
 
 /// `equivalent_pair` is `None` if and only if the graph is bicritical, and `cut_pair` is `None` if
 /// and only if the graph has no cut pair.
-pub fn first_pairs_law()
+pub fn missing_pairs_law()
     ensures bicritical { (g : Graph) → (equivalent_pair g ≡ None) ↔ IsBicritical g }
     ensures separated { (g : Graph) → (cut_pair g ≡ None) ↔ ((u v : ℕ) → ¬ (IsCutPair g u v)) }
 {}
@@ -43,7 +43,7 @@ pub fn separation_cuts_law()
 
 /// A brick, that is, a nonbipartite covered graph without a nontrivial tight cut, has at least four
 /// vertices, is bicritical and has no cut pair (Lovász 1987).
-pub fn brick_law()
+pub fn brick_conditions_law()
     ensures four { (g : Graph) → IsMultigraph g → IsCovered g → ¬ (IsBipartite g) → 4 ≤ g.order }
     ensures bicritical { (g : Graph) → IsMultigraph g → IsCovered g → ¬ (IsBipartite g) →
         HasOnlyTrivialTightCuts g → IsBicritical g }

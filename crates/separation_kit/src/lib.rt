@@ -7,9 +7,9 @@
 //! these. `separation_cuts` lists the nontrivial cuts that the cut pairs of a bicritical covered
 //! graph give, each once by its canonical shore; `first_separation_cut` returns the first of them.
 //!
-//! The laws: what `None` means (`first_pairs_law`), the components of G - u - v are even and have
+//! The laws: what `None` means (`missing_pairs_law`), the components of G - u - v are even and have
 //! tight cuts (`separation_law`), a bicritical graph with a cut pair has such a cut
-//! (`separation_cuts_law`), and a brick is bicritical and has no cut pair (`brick_law`).
+//! (`separation_cuts_law`), and a brick is bicritical and has no cut pair (`brick_conditions_law`).
 //!
 //! Depends on `barrier_kit`. Sources: Edmonds, Lovász and Pulleyblank 1982; Lovász 1987.
 #![tactic(auto)]
@@ -26,6 +26,6 @@ mod shores;
 pub use barrier_kit::graph_facts;
 pub use critical::{cut_pair, equivalent_pair, first_cut_pair, not_bicritical, parts_without};
 pub use first_pairs::FirstPairs;
-pub use laws::{brick_law, first_pairs_law, separation_cuts_law, separation_law};
+pub use laws::{brick_conditions_law, missing_pairs_law, separation_cuts_law, separation_law};
 pub use pairs::{Pair, all_pairs};
 pub use shores::{first_separation_cut, separation_cuts};

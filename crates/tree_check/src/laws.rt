@@ -14,7 +14,7 @@ ghost use Rattle.tree_check.specs.declared.replaying.Replayed.TheVariants.{Done,
 /// A derivation of a graph has no refusal, and each other tree of a matching covered graph has
 /// exactly one: the node and the reason are determined, and what the reason shows, but for the
 /// perfect matching that crosses a cut.
-pub fn first_refusal_law()
+pub fn first_tree_refusal_law()
     ensures none { (g : Graph) (t : Shape) (node : ℕ) (why : Why) → IsGraph g → IsDerivation g t →
         IsRefused g t node why → ⊥ }
     ensures one { (g : Graph) (t : Shape) (i j : ℕ) (a b : Why) → IsGraph g → IsRefused g t i a →

@@ -14,7 +14,7 @@ pub fn written_tree_law()
 {}
 
 /// Appending comments to the text of a tree changes nothing.
-pub fn comments_law()
+pub fn tree_comments_law()
     ensures { (n : ℕ) (t : Shape) (comments : List ℕ) → IsWritable n t
         → AllByRecursion (λ line. is_skipped (words_of line) ≡ true) (lines_of comments)
         → Stands (tree_format n) (tree_text n t ++ comments) t }

@@ -7,7 +7,7 @@ ghost use Rattle.tree_text.specs.SoFar.{picks_so_far};
 
 use graph_core::Numbers;
 use graph_core::line_text::{
-    FaultKind, LineFormat, Refusal, TextFault, has_form, number, read_text, word,
+    FaultKind, LineFormat, RuleFault, TextFault, has_form, number, read_text, word,
 };
 use std::alloc::Global;
 
@@ -26,46 +26,46 @@ struct PickFormat {
     alloc: Global,
 }
 
-fn read_header(alloc: Global, words: &[&[u8]]) -> Result<PicksRead, Refusal<FaultKind>>
+fn read_header(alloc: Global, words: &[&[u8]]) -> Result<PicksRead, RuleFault<FaultKind>>
     ensures { Gives picks_so_far result (pick_header (texts_of words.now)) }
 {
     if !has_form(words, 3, &["s", "mcg"]) {
-        return Err(Refusal::Fault(FaultKind::Header));
+        return Err(RuleFault::Fault(FaultKind::Header));
     }
     let Some(count) = number(word(words, 2)) else {
-        return Err(Refusal::Fault(FaultKind::Number));
+        return Err(RuleFault::Fault(FaultKind::Number));
     };
     if count > MOST_PICKS {
-        return Err(Refusal::Fault(FaultKind::Limit));
+        return Err(RuleFault::Fault(FaultKind::Limit));
     }
     let picks = Numbers::new(alloc);
     Ok(PicksRead { count, picks })
 }
 
-fn read_pick(body: PicksRead, words: &[&[u8]]) -> Result<PicksRead, Refusal<FaultKind>>
+fn read_pick(body: PicksRead, words: &[&[u8]]) -> Result<PicksRead, RuleFault<FaultKind>>
     ensures { Gives picks_so_far result (pick_line (picks_so_far body) (texts_of words.now)) }
 {
     let PicksRead { count, mut picks } = body;
     if picks.len() == count as usize {
-        return Err(Refusal::Fault(FaultKind::Extra));
+        return Err(RuleFault::Fault(FaultKind::Extra));
     }
     if !has_form(words, 2, &["pick"]) {
-        return Err(Refusal::Fault(FaultKind::Word));
+        return Err(RuleFault::Fault(FaultKind::Word));
     }
     let Some(place) = number(word(words, 1)) else {
-        return Err(Refusal::Fault(FaultKind::Number));
+        return Err(RuleFault::Fault(FaultKind::Number));
     };
     picks.push(place)?;
     Ok(PicksRead { count, picks })
 }
 
-fn close_picks(body: PicksRead) -> Result<Numbers, Refusal<FaultKind>>
+fn close_picks(body: PicksRead) -> Result<Numbers, RuleFault<FaultKind>>
     ensures { Gives (λ (picks : List ℕ). picks) result (pick_end (picks_so_far body)) }
 {
     if body.picks.len() == body.count as usize {
         Ok(body.picks)
     } else {
-        Err(Refusal::Fault(FaultKind::Missing))
+        Err(RuleFault::Fault(FaultKind::Missing))
     }
 }
 
@@ -86,15 +86,15 @@ impl LineFormat for PickFormat {
 
     ghost rules = { λ _. pick_format };
 
-    fn header(&self, words: &[&[u8]]) -> Result<PicksRead, Refusal<FaultKind>> {
+    fn header(&self, words: &[&[u8]]) -> Result<PicksRead, RuleFault<FaultKind>> {
         read_header(self.alloc, words)
     }
 
-    fn line(&self, body: PicksRead, words: &[&[u8]]) -> Result<PicksRead, Refusal<FaultKind>> {
+    fn line(&self, body: PicksRead, words: &[&[u8]]) -> Result<PicksRead, RuleFault<FaultKind>> {
         read_pick(body, words)
     }
 
-    fn close(&self, body: PicksRead) -> Result<Numbers, Refusal<FaultKind>> {
+    fn close(&self, body: PicksRead) -> Result<Numbers, RuleFault<FaultKind>> {
         close_picks(body)
     }
 

@@ -11,7 +11,7 @@ use crate::nodes_read::{NodesRead, TreeFormat};
 use crate::place::{Above, Progress, put};
 use crate::shores::{holds, rise, shore_of};
 use graph_core::line_text::{
-    FaultKind, LineFormat, Refusal, TextFault, has_form, has_out_of_range, number, numbers,
+    FaultKind, LineFormat, RuleFault, TextFault, has_form, has_out_of_range, number, numbers,
     read_text, word,
 };
 use graph_core::vset_core::{MOST_VERTICES, VSet};
@@ -20,17 +20,17 @@ use tree_core::Tree;
 
 const MOST_NODES: u32 = 127;
 
-fn read_header(n: u32, words: &[&[u8]]) -> Result<NodesRead, Refusal<FaultKind>>
+fn read_header(n: u32, words: &[&[u8]]) -> Result<NodesRead, RuleFault<FaultKind>>
     ensures { Gives tree_so_far result (tree_header n (texts_of words.now)) }
 {
     if !has_form(words, 3, &["t", "mcg"]) {
-        return Err(Refusal::Fault(FaultKind::Header));
+        return Err(RuleFault::Fault(FaultKind::Header));
     }
     let Some(order) = number(word(words, 2)) else {
-        return Err(Refusal::Fault(FaultKind::Number));
+        return Err(RuleFault::Fault(FaultKind::Number));
     };
     if order != n {
-        return Err(Refusal::Fault(FaultKind::Header));
+        return Err(RuleFault::Fault(FaultKind::Header));
     }
     Ok(NodesRead {
         nodes: 0,
@@ -61,24 +61,24 @@ fn is_node(words: &[&[u8]]) -> bool
 
 // The vertices that a line names after its first word.
 #[tactic(auto, using(crate::proofs::ShoreLists::rising_shore))]
-fn read_shore(alloc: Global, n: u32, words: &[&[u8]]) -> Result<VSet, Refusal<FaultKind>>
+fn read_shore(alloc: Global, n: u32, words: &[&[u8]]) -> Result<VSet, RuleFault<FaultKind>>
     requires { n ≤ MOST_VERTICES }
     ensures shore { IfOk result (λ shore. shore ≡ shore_told (texts_of words.now)) }
     ensures tests { (so_far : TreeSoFar) →
         Gives (λ _. so_far) result (checked (shore_tests n (texts_of words.now)) so_far) }
 {
     let Some(read) = numbers(alloc, behind_first(words))? else {
-        return Err(Refusal::Fault(FaultKind::Number));
+        return Err(RuleFault::Fault(FaultKind::Number));
     };
     let vertices = read.as_slice();
     if has_out_of_range(n, vertices) {
-        return Err(Refusal::Fault(FaultKind::Range));
+        return Err(RuleFault::Fault(FaultKind::Range));
     }
     if !rise(vertices) {
-        return Err(Refusal::Fault(FaultKind::NotRising));
+        return Err(RuleFault::Fault(FaultKind::NotRising));
     }
     if holds(vertices, n) {
-        return Err(Refusal::Fault(FaultKind::HasGreatest));
+        return Err(RuleFault::Fault(FaultKind::HasGreatest));
     }
     Ok(shore_of(vertices))
 }
@@ -102,16 +102,16 @@ fn read_node(
     nodes: u32,
     above: Above,
     words: &[&[u8]],
-) -> Result<NodesRead, Refusal<FaultKind>>
+) -> Result<NodesRead, RuleFault<FaultKind>>
     requires order { n ≤ MOST_VERTICES }
     requires few { nodes ≤ most_nodes }
     ensures { Gives tree_so_far result (node_line n nodes (next_place above) (texts_of words.now)) }
 {
     if nodes >= MOST_NODES {
-        return Err(Refusal::Fault(FaultKind::Limit));
+        return Err(RuleFault::Fault(FaultKind::Limit));
     }
     if !is_node(words) {
-        return Err(Refusal::Fault(FaultKind::Word));
+        return Err(RuleFault::Fault(FaultKind::Word));
     }
     let shore = match read_shore(alloc, n, words) {
         Ok(shore) => shore,
@@ -141,23 +141,23 @@ impl LineFormat for TreeFormat {
 
     ghost rules = { λ format. tree_format format.order };
 
-    fn header(&self, words: &[&[u8]]) -> Result<NodesRead, Refusal<FaultKind>> {
+    fn header(&self, words: &[&[u8]]) -> Result<NodesRead, RuleFault<FaultKind>> {
         read_header(self.order, words)
     }
 
-    fn line(&self, body: NodesRead, words: &[&[u8]]) -> Result<NodesRead, Refusal<FaultKind>> {
+    fn line(&self, body: NodesRead, words: &[&[u8]]) -> Result<NodesRead, RuleFault<FaultKind>> {
         let NodesRead { nodes, progress } = body;
         match progress {
             Progress::Wanted(above) => read_node(self.alloc, self.order, nodes, above, words),
-            Progress::Whole(_) => Err(Refusal::Fault(FaultKind::Extra)),
+            Progress::Whole(_) => Err(RuleFault::Fault(FaultKind::Extra)),
         }
     }
 
-    fn close(&self, body: NodesRead) -> Result<Tree, Refusal<FaultKind>> {
+    fn close(&self, body: NodesRead) -> Result<Tree, RuleFault<FaultKind>> {
         let NodesRead { progress, .. } = body;
         match progress {
             Progress::Whole(tree) => Ok(tree),
-            Progress::Wanted(_) => Err(Refusal::Fault(FaultKind::Missing)),
+            Progress::Wanted(_) => Err(RuleFault::Fault(FaultKind::Missing)),
         }
     }
 

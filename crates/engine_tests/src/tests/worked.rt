@@ -14,12 +14,12 @@ use quick_kinds::{quick_brace, quick_brick};
 use std::alloc::{AllocError as Memory, Global};
 use std::test::Fail;
 use tree_check::barrier_kit::{barrier_cuts, classes, is_barrier};
-use tree_check::separation_kit::{cut_pair, first_pairs_law, not_bicritical, separation_cuts};
+use tree_check::separation_kit::{cut_pair, missing_pairs_law, not_bicritical, separation_cuts};
 
 fn is_bicritical(alloc: Global, g: &MultiGraph) -> Result<bool, Memory>
     ensures { IfOk result (λ yes. IsTrue yes → IsBicritical g.now) }
 {
-    first_pairs_law();
+    missing_pairs_law();
     match not_bicritical(alloc, g)? {
         None => Ok(true),
         Some(_) => Ok(false),

@@ -2,9 +2,9 @@
 //! read that fails, and with too little room for the line.
 
 use line_text::FaultKind;
-use mcg6_encoder::mcg6_reader::BadLine;
+use mcg6_encoder::encode;
+use mcg6_encoder::mcg6_reader::{BadLine, InputEnding};
 use mcg6_encoder::outside::{MOST_BYTES, MemSink, MemSource};
-use mcg6_encoder::{EncodeEnding, encode};
 use std::alloc::{AllocError as Memory, Global};
 use std::test::Fail;
 
@@ -46,7 +46,7 @@ fn in_pieces(alloc: Global, file: &str, size: usize) -> Result<MemSource, Memory
 }
 
 // How the encoding of a file ends with this bad line, if it has one.
-fn ending_of(alloc: Global, bad: &Option<Bad>) -> Result<EncodeEnding, Memory> {
+fn ending_of(alloc: Global, bad: &Option<Bad>) -> Result<InputEnding, Memory> {
     match bad {
         Some((number, kind, text)) => {
             let found = BadLine {
@@ -54,9 +54,9 @@ fn ending_of(alloc: Global, bad: &Option<Bad>) -> Result<EncodeEnding, Memory> {
                 kind: *kind,
                 text: Vec::from_slice(alloc, text.as_bytes())?,
             };
-            Ok(EncodeEnding::Bad { found })
+            Ok(InputEnding::Bad { found })
         }
-        None => Ok(EncodeEnding::Encoded),
+        None => Ok(InputEnding::Done),
     }
 }
 
@@ -65,7 +65,7 @@ fn is_encoded(
     alloc: Global,
     mut source: MemSource,
     mut sink: MemSink,
-    ending: &EncodeEnding,
+    ending: &InputEnding,
     wanted: &[u8],
 ) -> bool {
     let ended = encode(alloc, &mut source, &mut sink);
@@ -99,7 +99,7 @@ fn a_read_fails(rt: HostRuntime) -> Result<(), Fail> {
         let mut source = in_pieces(rt.alloc(), K4, 20)?;
         source.fail_read(read)?;
         let sink = MemSink::new(rt.alloc(), 100, 100)?;
-        assert!(rt; is_encoded(rt.alloc(), source, sink, &EncodeEnding::ReadFault, b""));
+        assert!(rt; is_encoded(rt.alloc(), source, sink, &InputEnding::ReadFault, b""));
     }
     Ok(())
 }
@@ -115,7 +115,7 @@ fn the_room_is_too_small(rt: HostRuntime) -> Result<(), Fail> {
                 rt.alloc(),
                 source,
                 sink,
-                &EncodeEnding::WriteFault,
+                &InputEnding::WriteFault,
                 &whole[..room]
             )
         );

@@ -6,7 +6,7 @@ ghost use Rattle.graph_core.specs.from_line_text.declared.faults.FaultKind.TheVa
 
 use self::Wanted::{Bad, Done};
 use graph_core::line_text::FaultKind::{self, Missing, Range};
-use mcg6_reader::{BadLine, Ending, LineAnswer, LinePlace, LineTeller, tell_all};
+use mcg6_reader::{BadLine, InputEnding, LineAnswer, LinePlace, LineTeller, tell_all};
 use outside::{MemSink, MemSource};
 use std::alloc::{AllocError as Memory, Global};
 use std::test::Fail;
@@ -58,12 +58,12 @@ enum Wanted {
 }
 
 // Whether a list that ended so ended as expected.
-fn is_wanted(ending: &Ending, wanted: &Wanted) -> bool {
+fn is_wanted(ending: &InputEnding, wanted: &Wanted) -> bool {
     match (ending, wanted) {
-        (Ending::Done, Wanted::Done)
-        | (Ending::ReadFault, Wanted::ReadFault)
-        | (Ending::WriteFault, Wanted::WriteFault) => true,
-        (Ending::Bad { found }, Wanted::Bad(number, kind, text)) => {
+        (InputEnding::Done, Wanted::Done)
+        | (InputEnding::ReadFault, Wanted::ReadFault)
+        | (InputEnding::WriteFault, Wanted::WriteFault) => true,
+        (InputEnding::Bad { found }, Wanted::Bad(number, kind, text)) => {
             found.number == *number
                 && found.kind == *kind
                 && found.text.as_slice() == text.as_bytes()

@@ -3,7 +3,7 @@
 
 use super::lists::Copyist;
 use graph_core::line_text::FaultKind;
-use mcg6_reader::{Ending, tell_all};
+use mcg6_reader::{InputEnding, tell_all};
 use outside::{MemSink, MemSource};
 use std::alloc::{AllocError as Memory, Global};
 use std::test::Fail;
@@ -18,10 +18,10 @@ static LONG_LINES: [(usize, Option<usize>); 4] = [
 
 // Whether the ending keeps so many bytes of a first line that is too long, the first of the list,
 // or is that of a list that was answered.
-fn keeps(ending: &Ending, kept: Option<usize>, list: &[u8]) -> bool {
+fn keeps(ending: &InputEnding, kept: Option<usize>, list: &[u8]) -> bool {
     match (ending, kept) {
-        (Ending::Done, None) => true,
-        (Ending::Bad { found }, Some(kept)) => {
+        (InputEnding::Done, None) => true,
+        (InputEnding::Bad { found }, Some(kept)) => {
             found.number == 1
                 && found.kind == FaultKind::Limit
                 && found.text.len() == kept

@@ -1,7 +1,7 @@
 use Rattle.std.proofs.Common.{List, ℕ, ◌≡◌, Option, None, take, refl, subst, ap, inl, inr, Err, IsErrOf, Result, arith}
 use Rattle.outside.specs.Common.{IsCutOff, IsWritten, appended}
 use Rattle.bench_reports.specs.from_bench_tasks.Common.{asked, HasNoMissing, IsReadFault}
-use Rattle.bench_reports.specs.from_bench_tasks.declared.stop.Stop.{Stop}
+use Rattle.bench_reports.specs.from_bench_tasks.declared.stop.LoadStop.{LoadStop}
 use Rattle.bench_reports.specs.from_bench_tasks.declared.tasks.Task.TheVariants as code
 use Rattle.bench_reports.specs.from_bench_outcomes.Common.{IsReported}
 use Rattle.bench_reports.specs.from_bench_outcomes.declared.status.Status.{Status}
@@ -16,13 +16,13 @@ use Rattle.bench_top.proofs.performing.perform.Goals as goal
 not-reported : (status : Status) → IsReported status → (status ≡ Usage → ⊥) × (status ≡ ReadFault → ⊥) × (status ≡ WriteFault → ⊥)
 not-reported status reported = grind arith
 
-read-not-fault : (result : Result code.the_data Stop) → HasNoMissing result → IsReadFault result → ⊥
+read-not-fault : (result : Result code.the_data LoadStop) → HasNoMissing result → IsReadFault result → ⊥
 read-not-fault result read fault = grind arith
 
 err-is : {X : Type 0} {status other : Status} → IsErrOf {T = X} (Err status) other → status ≡ other
 err-is is = grind arith
 
-reported-bad : (result : Result code.the_data Stop) (bytes : List ℕ) (before now : Option (List ℕ)) → ReportsBad result bytes → now ≡ appended before bytes → ReportedBad (stop_in result) before now
+reported-bad : (result : Result code.the_data LoadStop) (bytes : List ℕ) (before now : Option (List ℕ)) → ReportsBad result bytes → now ≡ appended before bytes → ReportedBad (stop_in result) before now
 reported-bad result bytes before now reports written = grind arith
 
 -- the report was written whole

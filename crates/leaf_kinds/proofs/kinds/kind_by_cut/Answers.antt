@@ -32,7 +32,7 @@ returns-clause-brick c =
     let covered = c.keeps_covered.ensures.covered in
     let kind = returns-clause-kind c in
     λ e. record {
-      four = c.brick_law.ensures.four g is covered kind.0;
-      bicritical = c.brick_law.ensures.bicritical g is covered kind.0 kind.1;
-      connected = c.brick_law.ensures.connected g is covered kind.0 kind.1;
+      four = c.brick_conditions_law.ensures.four g is covered kind.0;
+      bicritical = c.brick_conditions_law.ensures.bicritical g is covered kind.0 kind.1;
+      connected = c.brick_conditions_law.ensures.connected g is covered kind.0 kind.1;
     }

@@ -1,5 +1,5 @@
 use Rattle.std.proofs.Common.{◌++◌}
-use Rattle.mcg6_reader.specs.declared.ending.Ending.TheVariants.{WriteFault}
+use Rattle.mcg6_reader.specs.declared.ending.InputEnding.TheVariants.{WriteFault}
 use Rattle.mcg6_reader.specs.Common.{Reports, ToldThrough, StopsWith, ending_of, lines_of}
 use Rattle.mcg6_reader.proofs.Pieces.{through_begins}
 use Rattle.mcg6_reader.proofs.Skips.{with_stop_fault, with_through_fault}

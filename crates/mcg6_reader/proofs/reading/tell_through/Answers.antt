@@ -1,6 +1,6 @@
 use Rattle.std.proofs.Common.{◌≡◌, [], inr, refl, take, rules, arith, Some, None}
 use Rattle.outside.specs.Common.{prepended, IsAtEnd}
-use Rattle.mcg6_reader.specs.declared.ending.Ending.TheVariants.{ReadFault, Memory}
+use Rattle.mcg6_reader.specs.declared.ending.InputEnding.TheVariants.{ReadFault, Memory}
 use Rattle.mcg6_reader.proofs.Readings.{so_far_none, so_far_piece, so_far_stops, so_far_end, so_far_begun, so_far_torn}
 use Rattle.mcg6_reader.proofs.ReadBytes.{read_end, read_memory, read_stops, read_torn}
 use Rattle.mcg6_reader.proofs.Streaming.{stream_stops, stream_end, stream_begun}

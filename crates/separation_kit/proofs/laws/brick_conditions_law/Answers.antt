@@ -1,6 +1,6 @@
 use Rattle.barrier_kit.proofs.Common.{bicritical, four_vertices, no_sides}
 use Rattle.separation_kit.proofs.CutPairs.{no_cut_pair}
-use Rattle.separation_kit.proofs.laws.brick_law.Goals as goal
+use Rattle.separation_kit.proofs.laws.brick_conditions_law.Goals as goal
 
 pub returns-clause-four : goal.returns-clause-four
 returns-clause-four c g is cov odd_cycle = four_vertices g is.ends cov (no_sides g is.no_loop odd_cycle)

@@ -1,6 +1,6 @@
 use Rattle.tight_cuts.proofs.from_barrier_kit.Common.{bicritical, four_vertices, no_sides}
 use Rattle.tight_cuts.proofs.from_separation_kit.CutPairs.{no_cut_pair}
-use Rattle.leaf_kinds.proofs.laws.brick_law.Goals as goal
+use Rattle.leaf_kinds.proofs.laws.brick_kind_law.Goals as goal
 
 pub returns : goal.returns
 returns c = λ g is covered brick.

@@ -1,5 +1,5 @@
 use Rattle.brick_kit.proofs.Bricks.{brick_or_not, no_shore, shore_pair, shore_reason}
-use Rattle.brick_kit.proofs.laws.bricks_law.Goals as goal
+use Rattle.brick_kit.proofs.laws.tight_cut_reason_law.Goals as goal
 
 pub returns-clause-reason : goal.returns-clause-reason
 returns-clause-reason c g x is cov tx wide = shore_reason g x is cov tx wide

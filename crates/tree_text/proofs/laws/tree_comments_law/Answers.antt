@@ -1,5 +1,5 @@
 use Rattle.tree_text.proofs.TreeReadBack.{Stands-commented}
-use Rattle.tree_text.proofs.laws.comments_law.Goals as goal
+use Rattle.tree_text.proofs.laws.tree_comments_law.Goals as goal
 
 pub returns : goal.returns
 returns c = Stands-commented

@@ -1,5 +1,5 @@
 use Rattle.tree_check.proofs.FirstRefusals.{derived-or_refused, refused-not_derived, refused-once}
-use Rattle.tree_check.proofs.laws.first_refusal_law.Goals as goal
+use Rattle.tree_check.proofs.laws.first_tree_refusal_law.Goals as goal
 
 pub returns : goal.returns
 returns c = record {

@@ -1,5 +1,5 @@
 use Rattle.mcg6_top.proofs.OneOutcome.{bad_alike, bad_once, done_alike, done_once, done_or_bad, stops_same}
-use Rattle.mcg6_top.proofs.laws.one_output_law.Goals as goal
+use Rattle.mcg6_top.proofs.laws.one_list_output_law.Goals as goal
 
 pub returns-clause-status : goal.returns-clause-status
 returns-clause-status c = done_or_bad

@@ -1,5 +1,5 @@
 use Rattle.separation_kit.proofs.SeparationFacts.{cut_pair-none, equivalent-none}
-use Rattle.separation_kit.proofs.laws.first_pairs_law.Goals as goal
+use Rattle.separation_kit.proofs.laws.missing_pairs_law.Goals as goal
 
 pub returns-clause-bicritical : goal.returns-clause-bicritical
 returns-clause-bicritical c = equivalent-none
