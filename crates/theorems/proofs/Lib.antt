@@ -42,6 +42,7 @@ pub mod ExtendableCuts
 pub mod ExtendableGraphs
 pub mod FilesOfReads
 pub mod FirstSeparated
+pub mod FlatWeights
 pub mod HetyeiEars
 pub mod HetyeiSides
 pub mod JoinedMatchings
@@ -68,10 +69,12 @@ pub mod OpenParts
 pub mod OutcomesExist
 pub mod PartitionSides
 pub mod Partners
+pub mod PairingsRead
 pub mod PickedDerivations
 pub mod PlainDecompositions
 pub mod Pockets
 pub mod PocketContractions
+pub mod Potentials
 pub mod PocketShelters
 pub mod EvenPockets
 pub mod QuotientCounts
@@ -88,6 +91,7 @@ pub mod SearchTests
 pub mod Separated
 pub mod SeparatingCuts
 pub mod SetsRead
+pub mod ShortPairings
 pub mod SidesAcrossCuts
 pub mod StableSets
 pub mod SmallerPockets

@@ -7,7 +7,7 @@
 //! `matchings`, `barriers`, `elementary` (elementary components), `bipartite`, `cuts` (uncrossing
 //! and laminar families), `decompositions` (their uniqueness, and the numbers of bricks and
 //! braces), `bricks`, `braces`, `extendable` (2-extendable graphs), `regular_graphs`, `separating`
-//! (separating cuts), `ears`, `weights` (weighted matchings), `outcomes` (what the program reports),
+//! (separating cuts), `ears`, `weights` (weighted matchings, potentials), `outcomes` (what the program reports),
 //! and `program`, an appendix on definitions of the program. What a chapter defines beyond the lower crates is in a file of
 //! `specs/`.
 //!
@@ -57,4 +57,4 @@ pub use program::{
 };
 pub use regular_graphs::{cubic_law, regular_law};
 pub use separating::separating_law;
-pub use weights::matching_duality_law;
+pub use weights::{matching_duality_law, potential_law};
