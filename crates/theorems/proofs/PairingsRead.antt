@@ -66,7 +66,7 @@ words-back [] are = refl
 words-back (words ∷ lines) are = ap₂ ◌∷◌ (words_of-unwords words are.0) (words-back lines are.1)
 
 -- numbers of at most nine digits
-abbrev AreShort : List ℕ → Type 0
+abbrev pub AreShort : List ℕ → Type 0
 AreShort ns = AllByRecursion (λ n. n < 10 ^ 9) ns
 
 pub record IsShortLine (line : MapLine) : Type 0 where

@@ -47,9 +47,12 @@ pub flat_potential : (g : Graph) (w : ℕ → ℕ) → IsGraph g → IsCovered g
     ((e : ℕ) → Within (size g) e → first_end g e ≢ second_end g e → q (first_end g e) + q (second_end g e) ≡ 2 * (w e + k))
 flat_potential g w is cov only flat =
     let b = flat_balances g w is flat cov in
-    let s = stars g only b.2 b.3 in
-    (b.0 + s.0, (λ v. b.1 v + s.1 v), λ e i loop_free. add (w e) b.0 s.0 (b.1 (first_end g e)) (b.1 (second_end g e)) (s.1 (first_end g e)) (s.1 (second_end g e)) (apart b.2 (first_end g e) (second_end g e))
-    (b.4 e i loop_free) (s.2 (first_end g e) (second_end g e) (is e i).0 (is e i).1 loop_free))
+    let s = stars g only b.2 b.3 in (
+      b.0 + s.0,
+      (λ v. b.1 v + s.1 v),
+      λ e i loop_free. add (w e) b.0 s.0 (b.1 (first_end g e)) (b.1 (second_end g e)) (s.1 (first_end g e)) (s.1 (second_end g e)) (apart b.2 (first_end g e) (second_end g e))
+          (b.4 e i loop_free) (s.2 (first_end g e) (second_end g e) (is e i).0 (is e i).1 loop_free),
+    )
   where
     add : (c k l a b r s p : ℕ) → a + b ≡ 2 * (c + k) + p → p + (r + s) ≡ 2 * l → (a + r) + (b + s) ≡ 2 * (c + (k + l))
     add c k l a b r s p h i = omega arith

@@ -71,10 +71,13 @@ module _ (g : Graph) (is : IsGraph g) (small : g.order ≤ 128) (s t : Shape) (m
   abbrev qs : List (List (List ℕ))
   qs = leaves g.order t
 
+  abbrev partner : ℕ → ℕ
+  partner i = (map_at maps (i + 1)).to
+
   each : (i : ℕ) → i < length ps → IsShort (slice_index_or ps i []) (slice_index_or maps i no_map)
   each i l = subst (λ j. IsShort (slice_index_or ps j []) (slice_index_or maps j no_map)) e (record {
     names = block-names g.order small (leaf_at ps (i + 1)) (partitions-leaves g s script.first (i + 1 - 1) [] (omega arith)).partition;
-    images = images-named g.order small g (leaf_at ps (i + 1)) (leaf_at qs to) (map_at maps (i + 1)).images (partitions-leaves g t script.second (to - 1) [] (let w = within.0 in let v = within.1 in omega arith)).partition (paired.same (i + 1) at);
+    images = images-named g.order small g (leaf_at ps (i + 1)) (leaf_at qs (partner i)) (map_at maps (i + 1)).images (partitions-leaves g t script.second (partner i - 1) [] (let w = within.0 in let v = within.1 in omega arith)).partition (paired.same (i + 1) at);
     to = let w = within.1 in let f = few-leaves_of g t is small script.second in omega arith;
   })
     where
@@ -84,10 +87,7 @@ module _ (g : Graph) (is : IsGraph g) (small : g.order ≤ 128) (s t : Shape) (m
       at : Within (length ps) (i + 1)
       at = (omega arith, omega arith)
 
-      abbrev to : ℕ
-      to = (map_at maps (i + 1)).to
-
-      within : Within (length qs) to
+      within : Within (length qs) (partner i)
       within = paired.within (i + 1) at
 
   pub report-read : (output : List ℕ) → output ≡ pairing_text moves (map_lines_of 0 ps maps) → map words_of (lines_of output) ≡ pairing_words moves (map_lines_of 0 ps maps)
