@@ -13,7 +13,7 @@ import re
 DOCUMENT = pathlib.Path("docs/dev/PROVED.md")
 HEADING = "## Mutants that the gate rejects"
 # How many mutants there are at least, and how many of them PROVED names.
-LEAST, LEAST_NAMED = 330, 40
+LEAST, LEAST_NAMED = 330, 100
 
 
 def edits(folder):
