@@ -134,10 +134,3 @@ MADE = """
 
 # Facts that cannot be seen in a program, since the compiler has put each function into its callers.
 UNSEEN = {"mcg places", "mcg unlike", "mcg6 unlike"}
-
-# Facts that may be made more than once for a graph or partition. An exception has the fact and why, and
-# below it a line for each call, without its graph: how often more with which graph.
-#     row: the graph is searched twice
-#         grow 7 5: grow75 52
-EXCEPTIONS = """
-"""
