@@ -3,7 +3,7 @@
 -- one: else, by Farkas' lemma, integer weights of the edges are not positive on each perfect
 -- matching, but positive on all edges together; and made whole numbers, by one more number at each
 -- edge, they are against the bound on averages.
-use Rattle.tree_check.proofs.from_counting.Common.{◌≡◌, ℕ, zero, suc, ◌+◌, ◌-◌, ◌*◌, ◌≤◌, ◌<◌, ◌==◌, Bool, true, false, ◌&&◌, cond, List, [], length, refl, sym, ap, ap₂, ◌∙◌, subst, arith, inl, inr, All, All-nil, All-weaker, le_of_mul-le-mul_left, cases_lt, mul_comm, at_le_total, half, total_add, total_congr, total_mul, ℤ, pos, ◌+ℤ◌, ◌≤ℤ◌, ◌<ℤ◌, ints, Within, bit, count, total, Set, everything, none}
+use Rattle.tree_check.proofs.from_counting.Common.{◌≡◌, ℕ, zero, suc, ◌+◌, ◌-◌, ◌*◌, ◌≤◌, ◌<◌, ◌==◌, Bool, true, false, ◌&&◌, cond, List, [], length, refl, sym, ap, ap₂, ◌∙◌, subst, arith, inl, inr, All, All-nil, All-weaker, le_of_mul-le-mul_left, cases_lt, mul-add, mul_comm, at_le_total, half, total_add, total_congr, total_mul, ℤ, pos, ◌+ℤ◌, ◌≤ℤ◌, ◌<ℤ◌, ints, Within, bit, count, total, Set, everything, none}
 use Rattle.std.proofs.Common.{◌*ℤ◌}
 use borrow.Author.Differences.{up, down}
 use Rattle.quick_kinds.proofs.from_brick_kit.SetSums.{sum_plus}
@@ -173,12 +173,13 @@ module _ (r : ℕ) (g : Graph) (is : IsGraph g) (regular : IsRegular r g) (wide 
     light : (p : Set) → IsPerfect g none p → weight_of g weight p ≤ most * count (size g) p
     light p pp =
         let f = number_of (size g) p in
-        let right : is_right f.0 ≡ true = is_perfect_congr g none (numbered (size g) f.0) p f.2 ∙ true_is_perfect g none p pp in
-        let same : scalar_product (size g) s.normal (vectors f.0) ≡ scalar_product (size g) s.normal (λ e. pos (bit (p e))) =
-            integer_total-congr (size g) (λ e. s.normal e *ℤ vectors f.0 e) (λ e. s.normal e *ℤ pos (bit (p e))) (λ e w. ap (λ b. s.normal e *ℤ pos (bit b)) (ap₂ ◌&&◌ right (f.2 e w))) in
-        let low = low_parts (scalar_product (size g) s.normal (λ e. pos (bit (p e)))) (downs p) (ups p) (signed_parts (size g) s.normal p) (subst (λ t. t ≤ℤ pos 0) same (s.low f.0 f.1)) in
+        let right = is_perfect_congr g none (numbered (size g) f.0) p f.2 ∙ true_is_perfect g none p pp in
+        let low = low_parts (scalar_product (size g) s.normal (λ e. pos (bit (p e)))) (downs p) (ups p) (signed_parts (size g) s.normal p) (subst (λ t. t ≤ℤ pos 0) (same f.0 right f.2) (s.low f.0 f.1)) in
         close (weight_of g weight p) (downs p) (ups p) (most * count (size g) p) (raised p) low
       where
+        same : (i : ℕ) → is_right i ≡ true → ((e : ℕ) → Within (size g) e → numbered (size g) i e ≡ p e) → scalar_product (size g) s.normal (vectors i) ≡ scalar_product (size g) s.normal (λ e. pos (bit (p e)))
+        same i right h = integer_total-congr (size g) (λ e. s.normal e *ℤ vectors i e) (λ e. s.normal e *ℤ pos (bit (p e))) (λ e w. ap (λ b. s.normal e *ℤ pos (bit b)) (ap₂ ◌&&◌ right (h e w)))
+
         close : (w d u k : ℕ) → w + d ≡ u + k → u ≤ d → w ≤ k
         close w d u k e l = omega arith
 

@@ -21,12 +21,9 @@ not_above k i l = elim (cases_Bool (nat_lt k i)) [
 -- the set i, if its last member is as in p, and the others are
 one_more : (m i j : ℕ) (b : Bool) (p : Set) → nat_lt (set_total m) i ≡ b → cond b (i - set_total m) i ≡ j → p (suc m) ≡ b → ((e : ℕ) → Within m e → numbered m j e ≡ p e) → (e : ℕ) → Within (suc m) e → numbered (suc m) i e ≡ p e
 one_more m i j b p above at last same e w = elim (cases_eq e (suc m)) [
-  | inl q ↦ cond-true (e == suc m) (nat_lt (set_total m) i) rest (eq-eqb e (suc m) q) ∙ above ∙ sym last ∙ sym (ap p q)
-  | inr n ↦ cond-false (e == suc m) (nat_lt (set_total m) i) rest (ne_eqb e (suc m) n) ∙ ap (λ k. numbered m k e) (ap (λ c. cond c (i - set_total m) i) above ∙ at) ∙ same e (omega arith)
+  | inl q ↦ cond-true (e == suc m) (nat_lt (set_total m) i) (numbered m (cond (nat_lt (set_total m) i) (i - set_total m) i) e) (eq-eqb e (suc m) q) ∙ above ∙ sym last ∙ sym (ap p q)
+  | inr n ↦ cond-false (e == suc m) (nat_lt (set_total m) i) (numbered m (cond (nat_lt (set_total m) i) (i - set_total m) i) e) (ne_eqb e (suc m) n) ∙ ap (λ k. numbered m k e) (ap (λ c. cond c (i - set_total m) i) above ∙ at) ∙ same e (omega arith)
 ]
-  where
-    abbrev rest : Bool
-    rest = numbered m (cond (nat_lt (set_total m) i) (i - set_total m) i) e
 
 -- the number of a set
 pub number_of : (m : ℕ) (p : Set) → (i : ℕ) × Within (set_total m) i × ((e : ℕ) → Within m e → numbered m i e ≡ p e)
