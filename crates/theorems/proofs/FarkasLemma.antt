@@ -30,8 +30,10 @@ module _ (l m : ℕ) (v : ℕ → ℕ → ℤ) (b : ℕ → ℤ) where
 
   unused : Combination l m v b → Combination (suc l) m v b
   unused c = record {
-    times = with_last c.times 0; multiple = c.multiple; positive = c.positive;
-    equal = λ e w. last_total c.times 0 e ∙ nothing (integer_total l (λ i. pos (c.times i) *ℤ v i e)) (v (suc l) e) ∙ c.equal e w
+    times = with_last c.times 0;
+    multiple = c.multiple;
+    positive = c.positive;
+    equal = λ e w. last_total c.times 0 e ∙ nothing (integer_total l (λ i. pos (c.times i) *ℤ v i e)) (v (suc l) e) ∙ c.equal e w;
   }
     where
       nothing : (a x : ℤ) → a +ℤ pos 0 *ℤ x ≡ a
@@ -39,11 +41,12 @@ module _ (l m : ℕ) (v : ℕ → ℕ → ℤ) (b : ℕ → ℤ) where
 
   apart_too : (w : Separator l m v b) → scalar_product m w.normal (v (suc l)) ≤ℤ pos 0 → Separator (suc l) m v b
   apart_too w h = record {
-    normal = w.normal; high = w.high;
+    normal = w.normal;
+    high = w.high;
     low = λ i k. elim (cases_eq i (suc l)) [
       | inl e ↦ subst (λ j. scalar_product m w.normal (v j) ≤ℤ pos 0) (sym e) h
       | inr n ↦ w.low i (omega arith)
-    ]
+    ];
   }
 
   module _ (w : Separator l m v b) (s : ℕ) (same : pos s ≡ scalar_product m w.normal (v (suc l))) (some : 1 ≤ s) where
@@ -89,7 +92,7 @@ module _ (l m : ℕ) (v : ℕ → ℕ → ℤ) (b : ℕ → ℤ) where
         low = λ i k. elim (cases_eq i (suc l)) [
           | inl e ↦ subst (λ j. scalar_product m leaning (v j) ≤ℤ pos 0) (sym e) (zero_low (scalar_product m leaning last) flat)
           | inr n ↦ subst (λ t. t ≤ℤ pos 0) (sym (as_moved (v i))) (u.low i (omega arith))
-        ]
+        ];
       }
 
     module _ (c : Combination l m (λ i. moved (v i)) (moved b)) where
@@ -144,8 +147,10 @@ module _ (l m : ℕ) (v : ℕ → ℕ → ℤ) (b : ℕ → ℤ) where
 
       lifted_combination : Combination (suc l) m v b
       lifted_combination = record {
-        times = with_last (λ i. s * c.times i) number.0; multiple = s * c.multiple;
-        positive = one_product s c.multiple some c.positive; equal = lifted
+        times = with_last (λ i. s * c.times i) number.0;
+        multiple = s * c.multiple;
+        positive = one_product s c.multiple some c.positive;
+        equal = lifted;
       }
 
 pub farkas : (l m : ℕ) (v : ℕ → ℕ → ℤ) (b : ℕ → ℤ) → Combination l m v b ⊎ Separator l m v b

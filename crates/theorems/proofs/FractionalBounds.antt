@@ -1,6 +1,6 @@
--- In an r-graph the edges weigh at most D on average if those of each perfect matching do. With
--- a large N added to each weight, the weight of any matching is at most that of half of the order
--- of edges of the weight N + D, so some cover has no larger value; its inequality is summed over all edges.
+-- In an r-graph the edges weigh at most D on average if those of each perfect matching do. Let n be
+-- the order. With a large number N added to each weight, no matching weighs more than n / 2 edges of
+-- the weight N + D, so some cover has no larger value; its inequality is summed over all edges.
 use Rattle.tree_check.proofs.from_counting.Common.{◌≡◌, ℕ, ◌+◌, ◌*◌, ◌≤◌, ◌<◌, refl, sym, ap, ◌∙◌, arith, inl, inr, mul-add, mul-le-mul_left, mul_comm, mul_left_comm, cases_eq, count_complement, total_none, count, total, Set, everything, none}
 use Rattle.quick_kinds.proofs.from_brick_kit.CoverBound.{Dual}
 use Rattle.quick_kinds.proofs.from_brick_kit.CutWeights.{lighter, raised_weight}

@@ -120,9 +120,12 @@ module _ (r : ℕ) (g : Graph) (is : IsGraph g) (regular : IsRegular r g) (wide 
 
     colouring_from : FractionalColouring r g
     colouring_from = record {
-      matchings = taken (set_total (size g)); times = c.multiple; some = c.positive;
-      perfect = taken_perfect (set_total (size g)); equal = equal;
-      many = listed_degrees g c.multiple (taken (set_total (size g))) 1 (omega arith) (taken_perfect (set_total (size g))) equal ∙ ap (λ k. c.multiple * k) (regular 1 (omega arith)) ∙ mul_comm c.multiple r
+      matchings = taken (set_total (size g));
+      times = c.multiple;
+      some = c.positive;
+      perfect = taken_perfect (set_total (size g));
+      equal = equal;
+      many = listed_degrees g c.multiple (taken (set_total (size g))) 1 (omega arith) (taken_perfect (set_total (size g))) equal ∙ ap (λ k. c.multiple * k) (regular 1 (omega arith)) ∙ mul_comm c.multiple r;
     }
 
   module _ (s : Separator (set_total (size g)) (size g) vectors ones) where
@@ -201,10 +204,12 @@ module _ (r : ℕ) (g : Graph) (is : IsGraph g) (regular : IsRegular r g) (wide 
 -- no vertex: the empty set, r times
 no_vertex : (r : ℕ) (g : Graph) → IsGraph g → g.order ≡ 0 → FractionalColouring r g
 no_vertex r g is zero_order = record {
-  matchings = repeated r none []; times = 1; some = omega arith;
+  matchings = repeated r none [];
+  times = 1;
+  some = omega arith;
   perfect = repeated_all (IsPerfect g none) r none [] (record { once = λ v w f. absurd (omega arith); away = λ v w f. absurd (omega arith) }) (All-nil (IsPerfect g none));
   many = times_length r ∙ omega arith;
-  equal = λ e w. absurd (let i = (is e w).0 in omega arith)
+  equal = λ e w. absurd (let i = (is e w).0 in omega arith);
 }
   where
     times_length : (r : ℕ) → length (repeated r none []) ≡ r
@@ -214,8 +219,12 @@ no_vertex r g is zero_order = record {
 -- no edge: the empty list
 no_edge : (g : Graph) → IsGraph g → IsRegular 0 g → FractionalColouring 0 g
 no_edge g is regular = record {
-  matchings = []; times = 1; some = omega arith; perfect = All-nil (IsPerfect g none); many = refl;
-  equal = λ e w. absurd (let i = some_degree 0 g e is regular w in omega arith)
+  matchings = [];
+  times = 1;
+  some = omega arith;
+  perfect = All-nil (IsPerfect g none);
+  many = refl;
+  equal = λ e w. absurd (let i = some_degree 0 g e is regular w in omega arith);
 }
 
 pub has_colouring : (r : ℕ) (g : Graph) → IsGraph g → IsRegular r g → HasWideOddCuts r g → FractionalColouring r g

@@ -30,11 +30,18 @@ pub times_left : (a b c : ℤ) → a *ℤ (b *ℤ c) ≡ b *ℤ (a *ℤ c)
 times_left a b c =
     let p = product_is b c in
     let q = product_is a c in
-    omega (arith, ints,
-    turn (up a) (up (b *ℤ c)) (up b) (down b) (up c) (down c) p.0, turn (down a) (down (b *ℤ c)) (up b) (down b) (down c) (up c) p.1,
-    turn (up a) (down (b *ℤ c)) (up b) (down b) (down c) (up c) p.1, turn (down a) (up (b *ℤ c)) (up b) (down b) (up c) (down c) p.0,
-    opened (up b) (up (a *ℤ c)) (up a * up c) (down a * down c) 0 0 q.0, opened (down b) (down (a *ℤ c)) (up a * down c) (down a * up c) 0 0 q.1,
-    opened (up b) (down (a *ℤ c)) (up a * down c) (down a * up c) 0 0 q.1, opened (down b) (up (a *ℤ c)) (up a * up c) (down a * down c) 0 0 q.0)
+    omega (
+      arith,
+      ints,
+      turn (up a) (up (b *ℤ c)) (up b) (down b) (up c) (down c) p.0,
+      turn (down a) (down (b *ℤ c)) (up b) (down b) (down c) (up c) p.1,
+      turn (up a) (down (b *ℤ c)) (up b) (down b) (down c) (up c) p.1,
+      turn (down a) (up (b *ℤ c)) (up b) (down b) (up c) (down c) p.0,
+      opened (up b) (up (a *ℤ c)) (up a * up c) (down a * down c) 0 0 q.0,
+      opened (down b) (down (a *ℤ c)) (up a * down c) (down a * up c) 0 0 q.1,
+      opened (up b) (down (a *ℤ c)) (up a * down c) (down a * up c) 0 0 q.1,
+      opened (down b) (up (a *ℤ c)) (up a * up c) (down a * down c) 0 0 q.0,
+    )
 
 pub times_assoc : (a b c : ℤ) → (a *ℤ b) *ℤ c ≡ a *ℤ (b *ℤ c)
 times_assoc a b c = *ℤ_comm (a *ℤ b) c ∙ times_left c a b ∙ ap (λ t. a *ℤ t) (*ℤ_comm c b)
