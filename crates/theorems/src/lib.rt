@@ -6,10 +6,10 @@
 //! and `docs/THEOREMS.md`, the book that follows this crate, say which. A file is a chapter:
 //! `matchings`, `barriers`, `elementary` (elementary components), `bipartite`, `cuts` (uncrossing
 //! and laminar families), `decompositions` (their uniqueness, and the numbers of bricks and
-//! braces), `bricks`, `braces`, `extendable` (2-extendable graphs), `regular_graphs`, `separating`
-//! (separating cuts), `ears`, `weights` (weighted matchings), `inequalities` (Farkas' lemma),
-//! `outcomes` (what the program reports), and `program`, an appendix on definitions of the program.
-//! What a chapter defines beyond the lower crates is in a file of `specs/`.
+//! braces), `bricks`, `braces`, `extendable` (2-extendable graphs), `regular_graphs`,
+//! `inequalities` (Farkas' lemma), `separating` (separating cuts), `ears`, `weights` (weighted
+//! matchings), `outcomes` (what the program reports), and `program`, an appendix on definitions of
+//! the program. What a chapter defines beyond the lower crates is in a file of `specs/`.
 //!
 //! No part of the program depends on this crate. Sources: Lovász and Plummer, "Matching Theory"
 //! (1986); Lucchesi and Murty, "Perfect Matchings" (2024).
