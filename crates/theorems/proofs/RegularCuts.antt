@@ -57,11 +57,11 @@ module _ (r : ℕ) (g : Graph) (is : IsGraph g) (regular : IsRegular r g) (wide 
         let a = all_edges r g is regular in
         settle g.order (count (size g) everything) (count (size g) p) (cut_size g x) (cover_value g d.y d.us) s a cover_weight in_cut_of_all
       where
-        in_cut_of_all : g.order * count (size g) everything + cut_size g x ≤ r * cover_value g d.y d.us
-        in_cut_of_all = under (weight_of g weight everything) (g.order * count (size g) everything) (cut_size g x) (r * cover_value g d.y d.us) (cut_weight g g.order x everything) (all_covered weight d)
-
         under : (a b c d : ℕ) → a ≡ b + c → a ≤ d → b + c ≤ d
         under a b c d h k = omega arith
+
+        in_cut_of_all : g.order * count (size g) everything + cut_size g x ≤ r * cover_value g d.y d.us
+        in_cut_of_all = under (weight_of g weight everything) (g.order * count (size g) everything) (cut_size g x) (r * cover_value g d.y d.us) (cut_weight g g.order x everything) (all_covered weight d)
 
         settle : (n m k i c : ℕ) → n ≡ 2 * k → r * n ≡ 2 * m → c ≤ n * k + 1 → n * m + i ≤ r * c → i ≤ r
         settle n m k i c s a l h =
