@@ -5,7 +5,7 @@
 //! What the bytes say is a relation on the graph alone (`IsTold`): the line of its kind
 //! (`IsKindLine`), the lines of its leaves as graphs (`AreLeafLines`), those of its elementary
 //! components (`elementary_lines`), the line of a maximum matching with the Gallai-Edmonds sets
-//! (`IsMatchingLine`), the canonical text of its graph file, or the line itself if the graph has a
+//! (`IsMatchingLine`), the lines of its candidates (`AreCutLines`), the canonical text of its graph file, or the line itself if the graph has a
 //! property and nothing if it has not (`IsSelected`). What is told of a line is one, except that
 //! `matching` may write any maximum matching (`is_free`, `AreAlike`): two first reasons differ at
 //! most in the Berge set (`definition_laws`), and the numbers of bricks and braces depend on no
@@ -19,8 +19,10 @@
 #![tactic(auto)]
 
 mod bicritical;
+mod cut_lines;
 mod decimals;
 mod deficiencies;
+mod ear_lines;
 mod elementary_lines;
 mod kind_lines;
 mod leaf_counts;
