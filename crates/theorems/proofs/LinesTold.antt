@@ -110,16 +110,16 @@ module _ (g : Graph) (is : IsMultigraph g) where
   cut_output : (number : ℕ) → (output : List ℕ) × AreCutLines number g output
   cut_output number = elim (covered_or g is) [
     | inl cov ↦ (
-        cut_lines (line_front number g) (candidates g),
-        inl (record {
-          covered = cov;
-          lines = refl;
-          tight = candidates_found g is.ends cov;
-          once = candidates_apart g;
-          cover = candidates_cover g is.ends cov;
-          none = candidates_none g is.ends cov;
-        }),
-      )
+      cut_lines (line_front number g) (candidates g),
+      inl (record {
+        covered = cov;
+        lines = refl;
+        tight = candidates_found g is.ends cov;
+        once = candidates_apart g;
+        cover = candidates_cover g is.ends cov;
+        none = candidates_none g is.ends cov;
+      }),
+    )
     | inr uncovered ↦ ([], inr (uncovered, refl))
   ]
 
