@@ -8,7 +8,6 @@ use Rattle.mcg6_top.proofs.from_mcg6_reader.LineCuts.{IsClosedText-append}
 use Rattle.mcg6_top.specs.from_mcg6_reader.declared.ending.BadLine.{BadLine}
 use Rattle.mcg6_top.specs.from_mcg6_reader.declared.ending.InputEnding.{InputEnding}
 use Rattle.mcg6_top.specs.from_mcg6_reader.declared.ending.InputEnding.TheVariants as ending
-use Rattle.mcg6_top.specs.from_mcg6_reader.declared.ending.InputEnding.TheVariants as encoding
 use Rattle.mcg6_encoder.specs.from_outside.declared.explain.FailureReason.{FailureReason}
 use Rattle.mcg6_top.specs.Common.{text_of}
 use Rattle.mcg6_top.specs.declared.status.ListRunEnding.{ListRunEnding}
@@ -174,8 +173,8 @@ list-closed name ending.WriteFault clues = unwritten-closed clues.is_abandoned
 list-closed name ending.Memory clues = inr (codes "mcg6: memory ran out; what was written is of the first lines alone", refl)
 
 file-closed : (name : List ℕ) (ended : InputEnding) (clues : Clues) → IsClosedText (file_words name ended clues)
-file-closed name encoding.Done clues = inl refl
-file-closed name (encoding.Bad found) clues = inr (bad-file-ends program (record {
+file-closed name ending.Done clues = inl refl
+file-closed name (ending.Bad found) clues = inr (bad-file-ends program (record {
   name = name;
   file_kind = Graph;
   line = found.number;
@@ -184,9 +183,9 @@ file-closed name (encoding.Bad found) clues = inr (bad-file-ends program (record
   sizes = None;
   text = Some found.text.items;
 }))
-file-closed name encoding.ReadFault clues = inr (unread-ends program name clues.reason (dash_note name))
-file-closed name encoding.WriteFault clues = unwritten-closed clues.is_abandoned
-file-closed name encoding.Memory clues = inr (codes "mcg6: memory ran out; nothing was written", refl)
+file-closed name ending.ReadFault clues = inr (unread-ends program name clues.reason (dash_note name))
+file-closed name ending.WriteFault clues = unwritten-closed clues.is_abandoned
+file-closed name ending.Memory clues = inr (codes "mcg6: memory ran out; nothing was written", refl)
 
 skipped-closed : (skipped : List BadLine) → IsClosedText (skipped_words skipped)
 skipped-closed [] = inl refl
