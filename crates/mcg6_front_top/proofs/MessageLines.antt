@@ -119,12 +119,18 @@ rows-end = (
       (
         row-ends (codes "matching") [] skip_file (codes "a line for each graph: a maximum matching, and D, A and C"),
         (
-          row-ends (codes "graph") [] file (codes "the file of one graph, for mcg"),
+          row-ends (codes "cuts") [] skip_file (codes "a line for each candidate for a tight cut"),
           (
-            row-ends (codes "select") (what ∷ []) skip_file (codes "the lines whose graph has a property"),
+            row-ends (codes "ears") [] skip_file (codes "a line for each graph: an ear decomposition"),
             (
-              row-ends (codes "encode") file [] (codes "the line of a file for mcg; parallel edges count once"),
-              tt,
+              row-ends (codes "graph") [] file (codes "the file of one graph, for mcg"),
+              (
+                row-ends (codes "select") (what ∷ []) skip_file (codes "the lines whose graph has a property"),
+                (
+                  row-ends (codes "encode") file [] (codes "the line of a file for mcg; parallel edges count once"),
+                  tt,
+                ),
+              ),
             ),
           ),
         ),
