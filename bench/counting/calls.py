@@ -29,6 +29,8 @@ LISTS = """
     leaves balanced
     elementary
     matching
+    cuts
+    ears
     select covered
     select uncovered
     select perfect

@@ -68,7 +68,7 @@ def lists(room):
     """Arguments of mcg6, and the list on standard input where it is there."""
     some = write(f"{room}/some.g6", b"".join([*KINDS, *KINDS]) + b"C~")
     one, bad = write(f"{room}/one.g6", b"E~rG\n"), write(f"{room}/bad.g6", b"C~\nx!\nC~\n")
-    words = [("kinds",), ("leaves",), ("leaves", "last"), ("leaves", "balanced"), ("elementary",), ("matching",), ("select", "brick"), ("select", "perfect"), ("select", "bricks=1")]
+    words = [("kinds",), ("leaves",), ("leaves", "last"), ("leaves", "balanced"), ("elementary",), ("matching",), ("cuts",), ("ears",), ("select", "brick"), ("select", "perfect"), ("select", "bricks=1")]
     found = [(it, DONE, source, most) for it, source in [*((it, some) for it in words), (("graph",), one)] for most in (None, 7)]
     found = [(words, status, source, most) for words, status, source, most in found if most is None or words in (("kinds",), ("graph",))]
     found += [(("kinds",), BAD_INPUT, bad, None), (("graph",), BAD_INPUT, some, None)]
