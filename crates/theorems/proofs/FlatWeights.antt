@@ -4,7 +4,7 @@
 -- back, the equations are summed over a perfect matching.
 use Rattle.tree_check.proofs.from_counting.Common.{◌≡◌, ◌≢◌, ℕ, ◌+◌, ◌*◌, ◌≤◌, Bool, true, false, List, [], ◌∷◌, refl, sym, ap, ap₂, ◌∙◌, arith, All, All-head, All-tail, total_congr, Within, bit, count, is_odd, total, Set, none}
 use Rattle.barrier_kit.proofs.Common.{even_order, loop_free}
-use Rattle.graph_core.proofs.Common.{covered_perfect, perfect_matching, Graph, IsCovered, IsGraph, degree, edges_in_cut, first_end, second_end, size, IsPerfect, IsTight}
+use Rattle.graph_core.proofs.Common.{covered_perfect, perfect_matching, Graph, IsCovered, IsGraph, degree, edges_in_cut, first_end, in_cut, second_end, size, IsPerfect, IsTight}
 use Rattle.quick_kinds.proofs.from_brick_kit.CoverBound.{Dual, cover_bound}
 use Rattle.quick_kinds.proofs.from_brick_kit.CutWeights.{raised_heaviest}
 use Rattle.quick_kinds.proofs.from_brick_kit.Duality.{dual}
@@ -12,15 +12,18 @@ use Rattle.quick_kinds.proofs.from_brick_kit.EdgeSums.{weight_flat, weight_most,
 use Rattle.quick_kinds.proofs.from_brick_kit.EndSums.{ends_weight}
 use Rattle.quick_kinds.proofs.from_brick_kit.PairBounds.{cut_sums}
 use Rattle.quick_kinds.proofs.from_brick_kit.TightCovers.{exact_each, exact_number, exact_tight}
-use Rattle.quick_kinds.specs.from_brick_kit.Balances.{apart}
 use Rattle.quick_kinds.specs.from_brick_kit.Weights.{IsHeaviest, cover_value, sum_over, weight_of}
 use Rattle.theorems.proofs.RegularDegrees.{perfect_size}
 use Rattle.theorems.specs.Weights.{IsFlat}
 
--- for each edge uv that is not a loop, q u + q v is 2 (w uv + k) plus the number of sets that contain
--- exactly one of u and v
+-- how many sets of the list have edge e in their cut
+abbrev pub crossed : Graph → List Set → ℕ → ℕ
+crossed g us e = sum_over (λ x. bit (in_cut g x e)) us
+
+-- for each edge uv that is not a loop, q u + q v is 2 (w uv + k) plus the number of sets whose cut
+-- contains it
 abbrev pub Balances : (g : Graph) (w q : ℕ → ℕ) (k : ℕ) (us : List Set) → Type 0
-Balances g w q k us = (e : ℕ) → Within (size g) e → first_end g e ≢ second_end g e → q (first_end g e) + q (second_end g e) ≡ 2 * (w e + k) + apart us (first_end g e) (second_end g e)
+Balances g w q k us = (e : ℕ) → Within (size g) e → first_end g e ≢ second_end g e → q (first_end g e) + q (second_end g e) ≡ 2 * (w e + k) + crossed g us e
 
 module _ (g : Graph) (w : ℕ → ℕ) (is : IsGraph g) (flat : IsFlat g w) where
   -- no matching weighs more
@@ -45,7 +48,7 @@ module _ (g : Graph) (w : ℕ → ℕ) (is : IsGraph g) (flat : IsFlat g w) wher
       settle a b c h i j = omega arith
 
   pub flat_balances : IsCovered g → (k : ℕ) × (q : ℕ → ℕ) × (us : List Set) × All (IsTight g) us × Balances g w q k us
-  flat_balances cov = (most, exact_number g w most is d exact, d.us, exact_tight g w most is d exact even, λ e i apart_ends. turn most (w e) (apart d.us (first_end g e) (second_end g e)) _ (exact_each g w most is d exact cov e i apart_ends))
+  flat_balances cov = (most, exact_number g w most is d exact, d.us, exact_tight g w most is d exact even, λ e i apart_ends. turn most (w e) (crossed g d.us e) _ (exact_each g w most is d exact cov e i apart_ends))
     where
       even : is_odd g.order ≡ false
       even = let p = covered_perfect g is cov in even_order g p.0 is p.1
@@ -65,10 +68,10 @@ module _ (g : Graph) (w q : ℕ → ℕ) (k : ℕ) (us : List Set) (is : IsGraph
   balanced_weight m pm =
       total_congr g.order q (λ v. q v * degree g m v) (λ v i. let one = pm.once v i refl in sym (by_one (q v) (degree g m v) one))
       ∙ ends_weight g q m is
-      ∙ total_congr (size g) (λ e. bit (m e) * (q (first_end g e) + q (second_end g e))) (λ e. bit (m e) * ((w e + w e) + ((k + k) + apart us (first_end g e) (second_end g e))))
+      ∙ total_congr (size g) (λ e. bit (m e) * (q (first_end g e) + q (second_end g e))) (λ e. bit (m e) * ((w e + w e) + ((k + k) + crossed g us e)))
       (λ e i. term (m e) _ _ (λ t. each e i (loop_free g none m is pm e i t)))
-      ∙ weight_plus g (λ e. w e + w e) (λ e. (k + k) + apart us (first_end g e) (second_end g e)) m
-      ∙ ap₂ ◌+◌ (weight_plus g w w m) (weight_plus g (λ e. k + k) (λ e. apart us (first_end g e) (second_end g e)) m ∙ ap₂ ◌+◌ (weight_flat g (k + k) m) (cut_sums g m us))
+      ∙ weight_plus g (λ e. w e + w e) (λ e. (k + k) + crossed g us e) m
+      ∙ ap₂ ◌+◌ (weight_plus g w w m) (weight_plus g (λ e. k + k) (λ e. crossed g us e) m ∙ ap₂ ◌+◌ (weight_flat g (k + k) m) (cut_sums g m us))
     where
       by_one : (a b : ℕ) → b ≡ 1 → a * b ≡ a
       by_one a b h = ap (λ t. a * t) h ∙ omega arith
@@ -76,7 +79,7 @@ module _ (g : Graph) (w q : ℕ → ℕ) (k : ℕ) (us : List Set) (is : IsGraph
       term : (b : Bool) (i j : ℕ) → (b ≡ true → i ≡ j) → bit b * i ≡ bit b * j
       term b i j h = grind arith
 
-      each : (e : ℕ) → Within (size g) e → first_end g e ≢ second_end g e → q (first_end g e) + q (second_end g e) ≡ (w e + w e) + ((k + k) + apart us (first_end g e) (second_end g e))
+      each : (e : ℕ) → Within (size g) e → first_end g e ≢ second_end g e → q (first_end g e) + q (second_end g e) ≡ (w e + w e) + ((k + k) + crossed g us e)
       each e i apart_ends = let h = balances e i apart_ends in omega arith
 
   pub balances_flat : IsFlat g w

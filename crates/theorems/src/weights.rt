@@ -5,10 +5,9 @@
 //! Marsh, "A primal algorithm for optimum matching" (1978); Edmonds, Lovász and Pulleyblank, "Brick
 //! decompositions and the matching rank of graphs" (Combinatorica 2, 1982).
 ghost use Rattle.std.specs.Prelude.{◌≡◌, ◌+◌, ◌*◌, ◌≤◌, ◌↔◌, ℕ, All, List};
-ghost use Rattle.tree_check.specs.from_counting.Common.{Set, Within, none};
-ghost use Rattle.graph_core.specs.Common.{Graph, HasOnlyTrivialTightCuts, IsCovered, IsGraph, IsMatching, IsMultigraph, IsTight, first_end, second_end, size};
-ghost use Rattle.quick_kinds.specs.from_brick_kit.Balances.{apart};
-ghost use Rattle.quick_kinds.specs.from_brick_kit.Weights.{IsCover, IsHeaviest, cover_value, weight_of};
+ghost use Rattle.tree_check.specs.from_counting.Common.{Set, Within, bit, none};
+ghost use Rattle.graph_core.specs.Common.{Graph, HasOnlyTrivialTightCuts, IsCovered, IsGraph, IsMatching, IsMultigraph, IsTight, first_end, in_cut, second_end, size};
+ghost use Rattle.quick_kinds.specs.from_brick_kit.Weights.{IsCover, IsHeaviest, cover_value, sum_over, weight_of};
 ghost use Rattle.theorems.specs.Weights.{IsFlat};
 
 /// The duality of weighted matchings: let w be whole numbers at the edges. The largest weight of a
@@ -37,7 +36,7 @@ pub fn potential_law()
     ensures balanced { (g : Graph) (w : ℕ → ℕ) → IsMultigraph g → IsCovered g → IsFlat g w ↔
         ((k : ℕ) × (q : ℕ → ℕ) × (us : List Set) × All (IsTight g) us ×
         ((e : ℕ) → Within (size g) e → q (first_end g e) + q (second_end g e) ≡
-        2 * (w e + k) + apart us (first_end g e) (second_end g e))) }
+        2 * (w e + k) + sum_over (λ x. bit (in_cut g x e)) us)) }
     ensures potential { (g : Graph) (w : ℕ → ℕ) → IsMultigraph g → IsCovered g →
         HasOnlyTrivialTightCuts g → IsFlat g w ↔
         ((k : ℕ) × (q : ℕ → ℕ) × ((e : ℕ) → Within (size g) e →
