@@ -1,14 +1,16 @@
 """The graphs of bench/scale and bench/slow_calls, each made by its name: graph_of("cubic-128-1") is a random cubic graph.
 
-A name is a family and its numbers, the last of a random family being the seed. Each family below says what its numbers are. All
-graphs are simple but those of `thick`. Vertices are numbered from 0. Nothing is needed but Python and bench/composite.
+A name is a family and its numbers, the last of a random family being the seed. Each family below says what its numbers are. Then may
+come steps, as in petersen-5-2+17+203: each number draws a step of bench/mutations.py, which changes the graph. All graphs are simple
+but those of the families whose names begin with `thick`, and those with steps. Vertices are numbered from 0. Nothing is needed but Python and bench/composite.
 """
 import os
 import random
 import subprocess
 
+from mutations import MOST_EDGES, MOST_VERTICES, PETERSEN, mutated, repeated, split_until
+
 HERE = os.path.dirname(os.path.abspath(__file__))
-MOST_VERTICES, MOST_EDGES = 128, 2048
 
 
 def cubic(n, seed):
@@ -222,23 +224,57 @@ def thick(n, m, seed):
     return sorted(edges[k % len(edges)] for k in range(m))
 
 
+def thicksplits(start, n, m, seed):
+    """`splits` with n vertices, whose edges are repeated at random until there are m."""
+    return repeated(splits(start, n, seed), m, seed)
+
+
+def splitpetersen(n, seed):
+    """The Petersen graph, where a random vertex is split until there are n."""
+    return split_until(n, *PETERSEN, seed)
+
+
+def splithalves(half, n, seed):
+    """The complete bipartite graph with classes of that size, where a random vertex is split until there are n."""
+    return split_until(n, 2 * half, halves(half, half), seed)
+
+
+def thickpetersen(n, m, seed):
+    """`splitpetersen` with n vertices, whose edges are repeated at random until there are m."""
+    return repeated(splitpetersen(n, seed), m, seed)
+
+
+def barrierpairs(vertices, size, parts, seed):
+    """A barrier with as many parts of that size, and a separation of so many parts of six vertices, glued on at two adjacent vertices."""
+    edges = barrier(vertices, size, 60, seed)
+    order = 1 + max(max(pair) for pair in edges)
+    (a, b), others = edges[0], separation(parts, 6, 60, seed)
+    place = {0: a, 1: b}
+    for v in range(2, 1 + max(max(pair) for pair in others)):
+        place[v] = order + v - 2
+    return sorted({tuple(sorted(pair)) for pair in edges} | {tuple(sorted((place[x], place[y]))) for x, y in others})
+
+
 FAMILIES = {it.__name__: it for it in (
     cubic, regular, sparse, dense, complete, bipartite, halves, band, halfgraph, barrier, separation, composite, flower, petersen, prism,
-    moebius, cycle, wheel, biwheel, staircase, book, chain, glued, splits, triangles, braces, thick)}
+    moebius, cycle, wheel, biwheel, staircase, book, chain, glued, splits, triangles, braces, thick, thicksplits, splitpetersen, splithalves,
+    thickpetersen, barrierpairs)}
 
 
 def graph_of(name):
     """How many vertices the graph with that name has, and its edges; a ValueError if there is none."""
+    name, *steps = name.split("+")
     family, *numbers = name.split("-")
-    if family not in FAMILIES or not all(it.isdigit() for it in numbers):
+    if family not in FAMILIES or not all(it.isdigit() for it in numbers + steps):
         raise ValueError(f"no graph has the name {name}")
     try:
         edges = FAMILIES[family](*map(int, numbers))
     except TypeError:
         raise ValueError(f"{name}: other numbers are expected: {FAMILIES[family].__doc__}") from None
-    if family in ("sparse", "dense"):
-        return int(numbers[0]), edges
-    return 1 + max(max(pair) for pair in edges), edges
+    order = int(numbers[0]) if family in ("sparse", "dense") else 1 + max(max(pair) for pair in edges)
+    for step in steps:
+        order, edges = mutated(order, edges, int(step))
+    return order, edges
 
 
 def graph_text(n, edges):

@@ -125,6 +125,16 @@ def quotient_of(graph, blocks):
     return len(blocks), tuple(sorted(pair for pair in ends if pair[0] != pair[1]))
 
 
+def single_vertices(order):
+    """The blocks of the partition of 1 to `order` into single vertices."""
+    return tuple(1 << k for k in range(order))
+
+
+def merged_blocks(blocks, shore):
+    """The blocks after those in the shore are merged into one, by their greatest vertices."""
+    return tuple(sorted([block for block in blocks if not block & shore] + [shore]))
+
+
 def functions_of(program):
     """The places of the functions of a program in the format ELF, by their names."""
     with open(program, "rb") as file:

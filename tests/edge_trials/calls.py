@@ -21,6 +21,7 @@ class Trial:
     def __init__(self, program, words, status=DONE, source=None, most=None):
         self.program, self.words, self.status, self.source, self.most = program, words, status, source, most
         self.files = [it for it in words if os.path.isfile(it)]
+        self.skips = "skip" in words
         self.name = " ".join([program, *map(os.path.basename, words), *(["<", os.path.basename(source)] if source else []), *([f"by {most} bytes"] if most else [])])
 
     def run(self, swap=None, **env):
@@ -31,7 +32,7 @@ class Trial:
 
 
 def commands(room):
-    """The twelve commands of mcg on worked files."""
+    """The commands of mcg on worked files."""
     k4, cube, k33, two = (f"{EXAMPLES}/{it}.mcg" for it in ("k4", "cube", "k33_triangle", "two_k4"))
     ears = write(f"{room}/k4.ears", "r mcg 4 6\nstart 1\near 2 4 6 3\near 1 2\nwith 2 5\n")
     first, last = f"{EXAMPLES}/two_k4_first.tree", f"{EXAMPLES}/two_k4_last.tree"
@@ -40,6 +41,8 @@ def commands(room):
         ("convert", f"{EXAMPLES}/cycle4_named.mcg"),
         ("analyse6", f"{EXAMPLES}/petersen.g6"),
         ("decompose", k33, "first"),
+        ("decompose", two, "last"),
+        ("decompose", k33, "balanced"),
         ("decompose", two, "script", f"{EXAMPLES}/two_k4.picks"),
         ("check", two, first),
         ("checkears", k4, ears),
@@ -65,10 +68,14 @@ def lists(room):
     """Arguments of mcg6, and the list on standard input where it is there."""
     some = write(f"{room}/some.g6", b"".join([*KINDS, *KINDS]) + b"C~")
     one, bad = write(f"{room}/one.g6", b"E~rG\n"), write(f"{room}/bad.g6", b"C~\nx!\nC~\n")
-    words = [("kinds",), ("leaves",), ("leaves", "last"), ("elementary",), ("matching",), ("select", "brick"), ("select", "bricks=1")]
+    words = [("kinds",), ("leaves",), ("leaves", "last"), ("leaves", "balanced"), ("elementary",), ("matching",), ("cuts",), ("ears",), ("select", "brick"), ("select", "perfect"), ("select", "bricks=1")]
     found = [(it, DONE, source, most) for it, source in [*((it, some) for it in words), (("graph",), one)] for most in (None, 7)]
     found = [(words, status, source, most) for words, status, source, most in found if most is None or words in (("kinds",), ("graph",))]
     found += [(("kinds",), BAD_INPUT, bad, None), (("graph",), BAD_INPUT, some, None)]
+    # each bad line is before the first that is answered, so what is said of it does not depend on the write that fails
+    skipped = write(f"{room}/skipped.g6", b"x!\nC\nC~\nA?\n")
+    for most in (None, 7):
+        found += [((*words, "skip"), BAD_INPUT, skipped, most) for words in (("kinds",), ("leaves", "last"), ("elementary",), ("select", "perfect"))]
     for words, status, source, most in found:
         yield words, status, source, most
         yield (*words, source), status, None, most
@@ -140,14 +147,15 @@ def wanted(trial, room, calls, i, how, plain):
         told = sum(it.count for it in calls[: i - 1] if (it.kind, it.of) == ("write", "2"))
         return plain[0], plain[1], plain[2][:told]
     if call.kind == "write":
-        return WRITE_FAULT, plain[1][:written], b"" if how == errno.EPIPE else lost_output(trial.program)
+        lost = b"" if how == errno.EPIPE else lost_output(trial.program)
+        return WRITE_FAULT, plain[1][:written], (plain[2] if trial.skips else b"") + lost
     if how == "zero":
         return cut(trial, room, call.path, read(call.path)[: call.before])
-    out = b""
+    out = told = b""
     if is_list(trial, call.path) and call.kind == "read":
         whole = read(call.path)[: call.before].rpartition(b"\n")
-        out = cut(trial, room, call.path, whole[0] + whole[1])[1]
-    return READ_FAULT, out, unread_words(trial, call.path)
+        _, out, told = cut(trial, room, call.path, whole[0] + whole[1])
+    return READ_FAULT, out, (told if trial.skips else b"") + unread_words(trial, call.path)
 
 
 def try_trial(trial, room, library):

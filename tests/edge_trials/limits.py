@@ -128,7 +128,7 @@ def deepest(room):
         yield ("mcg", "analyse", path), DONE
         yield ("mcg", "convert", path), DONE
         yield ("mcg", "analyse6", line), DONE
-        for words in (("encode", path), ("kinds", line), ("leaves", line), ("leaves", "last", line), ("select", "bicritical", line), ("graph", line)):
+        for words in (("encode", path), ("kinds", line), ("leaves", line), ("leaves", "last", line), ("elementary", line), ("matching", line), ("select", "bicritical", line), ("select", "perfect", line), ("graph", line)):
             yield ("mcg6", *words), DONE
         status = NEGATIVE if name == "path" else DONE
         trees = [write(f"{room}/{name}.{order}", run("mcg", "decompose", path, order)[1]) for order in ("first", "last")]

@@ -18,9 +18,9 @@ def try_lists(room):
         for ran in (run(program, "kinds", some), run(program, "kinds", source=some)):
             note(ran == whole, f"{program} on a list", f"{ran}")
         for path, why in ((f"{room}/none.g6", "there is no such file"), (room, "it is a folder"), ("/proc/self/mem", "a read of it failed")):
-            for command in ("kinds", "graph", "leaves", "elementary", "matching", "encode"):
-                ran = run(program, command, path)
-                note(ran == (READ_FAULT, b"", unread(program, path, why)), f"{program} {command} {os.path.basename(path)}", f"{ran}")
+            for words in (("kinds",), ("kinds", "skip"), ("graph",), ("leaves",), ("elementary",), ("matching",), ("cuts",), ("ears",), ("select", "perfect"), ("encode",)):
+                ran = run(program, *words, path)
+                note(ran == (READ_FAULT, b"", unread(program, path, why)), f"{program} {' '.join(words)} {os.path.basename(path)}", f"{ran}")
         folder = os.open(room, os.O_RDONLY)
         ran = run(program, "kinds", stdin=folder)
         os.close(folder)

@@ -25,6 +25,8 @@ def reports(room):
         (("decompose", long_cycle, "first"), DONE),
         (("convert", large), DONE),
         (("decompose", large, "first"), DONE),
+        (("decompose", large, "last"), DONE),
+        (("decompose", long_cycle, "balanced"), DONE),
     ]
 
 
@@ -85,13 +87,12 @@ def try_closed(room):
 
 def try_reads(room):
     """What cannot be opened, what can be opened and not be read, and names that are no UTF-8."""
-    k4 = f"{EXAMPLES}/k4.mcg"
+    k4, leaf = f"{EXAMPLES}/k4.mcg", write(f"{room}/leaf.tree", "t mcg 4\nleaf\n")
     for program in BENCHES:
         for path, why in ((f"{room}/none.mcg", "there is no such file"), (room, "it is a folder"), ("/proc/self/mem", "a read of it failed")):
-            for words in (("analyse", path), ("check", k4, path), ("compare", k4, f"{EXAMPLES}/cube.mcg", path)):
-                if words[0] != "compare":  # whose second file is no tree
-                    ran = run(program, *words)
-                    note(ran == (READ_FAULT, b"", unread(program, path, why)), f"{program} {words[0]} .. {os.path.basename(path)}", f"{ran}")
+            for words in (("analyse", path), ("check", k4, path), ("compare", k4, leaf, path), ("compare", k4, path, leaf), ("replay", k4, leaf, path)):
+                ran = run(program, *words)
+                note(ran == (READ_FAULT, b"", unread(program, path, why)), f"{program} {words[0]} .. {os.path.basename(path)}", f"{ran}")
         for words in ((b"analyse", b"\xff.mcg"), (b"\xc3", b"g"), (b"analyse", b"g", b"\xed\xa0\x80")):
             ran = run(program, *words)
             note(ran[:2] == (NO_WORDS, b"") and ran[2].startswith(said(program, "mcg: ")), f"{program} {words}", f"{ran}")

@@ -1,6 +1,6 @@
 """Does each clause that a document cites stand in the contract that it is cited of?
 
-Looks in the tables of TRUST and PROVED, and in FORMATS, MANUAL and LIBRARY, for words of the form "`a`, `b` (`R`) of `f`", where `f` is
+Looks in the tables of TRUST, PROVED and mutants.md, and in FORMATS, MANUAL and LIBRARY, for words of the form "`a`, `b` (`R`) of `f`", where `f` is
 a function, a type or a record of the crates. Each of `a` and `b` must be a clause `ensures a` of a function `f`, or a field of a record
 that its contract names; a method, a field or a ghost item of the type `f`; or a field of the record `f`. A function of `laws` may be
 cited of its module. Each field of the records of the top calls must be named in PROVED. It lists each that is not there, and ends with
@@ -10,7 +10,7 @@ import collections
 import pathlib
 import re
 
-DOCUMENTS = ["docs/TRUST.md", "docs/dev/PROVED.md", "docs/FORMATS.md", "docs/MANUAL.md", "docs/LIBRARY.md"]
+DOCUMENTS = ["docs/TRUST.md", "docs/dev/PROVED.md", "tools/agreement/mutants.md", "docs/FORMATS.md", "docs/MANUAL.md", "docs/LIBRARY.md"]
 PROVED = pathlib.Path("docs/dev/PROVED.md")
 LEAST, LEAST_FIELDS = 150, 30
 # The records of the top calls.

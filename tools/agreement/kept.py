@@ -1,5 +1,5 @@
-"""Is each test that docs/dev/KEPT.md lists still there? A row of its tables names a file, or several, and in its last column the texts
-that the files must have, each between backquotes.
+"""Is each test that tools/agreement/kept.txt lists still there? An entry says what is tested, names a file, or several, and then the
+texts that the files must have.
 
 Comments do not count. In files of Rattle, a text counts only within a test, or within a function or table that a test of these files
 uses. A text `fn NAME` is a test, with `#[test]` directly above, from which another text of the row is reached.
@@ -7,20 +7,21 @@ uses. A text `fn NAME` is a test, with `#[test]` directly above, from which anot
 import pathlib
 import re
 
-DOCUMENT = pathlib.Path("docs/dev/KEPT.md")
-# How many tests the document lists at least.
+LIST = pathlib.Path("tools/agreement/kept.txt")
+# How many texts the list has at least.
 LEAST = 200
 TOKEN = re.compile(r'("(?:\\.|[^"\\])*"|\'(?:\\.|[^\'\\])\')|//[^\n]*|/\*.*?\*/', re.S)
 ITEM = re.compile(r"^(#\[test\]\n)?(?:pub )?(?:fn|static|const) (\w+)\b.*?(?:[;}]$)(?=\n\n|\n*\Z)", re.M | re.S)
 
 
-def rows():
-    """The rows of the tables: what is tested, the files, and the texts that they must have."""
-    for line in DOCUMENT.read_text().splitlines():
-        cells = [it.strip() for it in line.strip("|").split(" | ")]
-        if line.startswith("| ") and len(cells) == 3 and cells[1].startswith("`"):
-            files = [pathlib.Path(it) for it in re.findall(r"`([^`]+)`", cells[1])]
-            yield cells[0], files, re.findall(r"`([^`]+)`", cells[2])
+def entries():
+    """The entries of the list: what is tested, the files, and the texts that they must have."""
+    for entry in LIST.read_text().split("\n\n"):
+        lines = [line.partition(": ") for line in entry.splitlines() if line and not line.startswith("#")]
+        of = {word: [it for key, _, it in lines if key == word] for word in ("what", "file", "text")}
+        if lines:
+            well_formed = lines[0][0] == "what" and len(of["what"]) == 1 and of["file"] and of["text"] and {it[0] for it in lines} <= set(of)
+            yield of["what"][0] if of["what"] else lines[0][2], [pathlib.Path(it) for it in of["file"]], of["text"], bool(well_formed)
 
 
 def without_comments(file):
@@ -42,11 +43,11 @@ def reached(names, items):
 
 
 def faults(files, texts):
-    """What is wrong with a row whose files are there."""
+    """What is wrong with an entry whose files are there."""
     code = "\n\n".join(map(without_comments, files))
     others = [it for it in texts if not re.fullmatch(r"fn \w+", it)]
     if not others:
-        return ["the row has no text to look for"]
+        return ["the entry has no text to look for but tests"]
     if files[0].suffix != ".rt":
         return [f"{text} is not there" for text in others if text not in code]
     items = {found[2]: found[0] for found in ITEM.finditer(code)}
@@ -61,15 +62,16 @@ def faults(files, texts):
 
 def main():
     wrong, count = [], 0
-    for what, files, texts in rows():
+    for what, files, texts, is_well_formed in entries():
         count += len(texts)
         lost = [file for file in files if not file.is_file()]
-        found = [f"there is no file {it}" for it in lost] if lost else faults(files, texts)
+        found = [f"there is no file {it}" for it in lost] if lost else faults(files, texts) if files else []
+        found += [] if is_well_formed else ["the entry is not one line `what`, and then lines `file` and `text`"]
         wrong += [f"{what}: {', '.join(map(str, files))}: {it}" for it in found]
     if count < LEAST:
         wrong.append(f"only {count} tests were found; there were {LEAST} at least")
     for line in wrong:
-        print(f"{DOCUMENT}: {line}")
+        print(f"{LIST}: {line}")
     if not wrong:
-        print(f"each of the {count} tests that {DOCUMENT} lists is there")
+        print(f"each of the {count} tests that {LIST} lists is there")
     return 1 if wrong else 0

@@ -1,19 +1,18 @@
 """Does each mutant say what it changes and fit its file, and does the gate try each mutant that
-docs/dev/PROVED.md names?
+tools/agreement/mutants.md names?
 
 The first line of an edit says in words what the edited code does: `# MEANING`. No two edits of a crate
 say the same. Each text that an edit replaces is in its file exactly once. This holds also of the mutants
-in crates/*/mutants, which only tools/mutants tries. In the table of PROVED each name of an edit is
+in crates/*/mutants, which only tools/mutants tries. In the tables there each name of an edit is
 followed by a checksum of its text, so that an edit that was changed is read again: whether it still has
 the meaning of its row."""
 import hashlib
 import pathlib
 import re
 
-DOCUMENT = pathlib.Path("docs/dev/PROVED.md")
-HEADING = "## Mutants that the gate rejects"
-# How many mutants there are at least, and how many of them PROVED names.
-LEAST, LEAST_NAMED = 330, 40
+DOCUMENT = pathlib.Path("tools/agreement/mutants.md")
+# How many mutants there are at least, and how many of them the tables name.
+LEAST, LEAST_NAMED = 330, 100
 
 
 def edits(folder):
@@ -55,9 +54,8 @@ def checksum(file):
 
 
 def rows():
-    """The rows of the table, with the edits that each names as CRATE/NAME, and their checksums."""
-    table = DOCUMENT.read_text().split(HEADING, 1)[1].split("\n## ", 1)[0]
-    for line in table.splitlines():
+    """The rows of the tables, with the edits that each names as CRATE/NAME, and their checksums."""
+    for line in DOCUMENT.read_text().splitlines():
         if line.startswith("| ") and not line.startswith(("| A mutant", "|---")):
             yield line, re.findall(r"`([a-z0-9_]+/[a-z0-9_]+)`(?: ([0-9a-f]{8})\b)?", line)
 

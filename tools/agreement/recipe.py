@@ -15,8 +15,6 @@ LEAST = 35
 # Files that name the command and are none of the recipe's, each with the reason.
 EXCEPTIONS = {
     "crates/bench_top/src/laws.rt": "a comment",
-    "crates/front_words/specs/Faults.antt": "a hint for graph6 in place of a graph file",
-    "crates/front_words/src/faults.rt": "the same",
     "crates/report_text/mutants/forgets_the_graph6_text.edit": "a mutant of its last line",
     "tests/edge_trials/limits.py": "the limits of graph6",
     "tools/agreement/recipe.py": "this file",

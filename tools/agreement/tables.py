@@ -1,7 +1,7 @@
 """Do the documents, the manual pages and the completions say what the fronts of mcg and mcg6 say?
 
-The tables of commands and the pages of the commands are in crates/command_table/src, the words for errors and the versions in
-crates/front_words/src. The rows of the usage of mcg are compared with the table of README, the synopsis of its manual page and its
+The tables of commands and the pages of the commands are in crates/command_table/src; the words for errors, which are constants, the
+functions that choose among them, and the versions are in crates/front_words/src. The rows of the usage of mcg are compared with the table of README, the synopsis of its manual page and its
 completion for bash; those of mcg6, with its properties, with its manual page, its completion, the table of FORMATS and the words that
 mcg6_top reads; each page with the rows of its command; the words for kinds of errors with the table of FORMATS; the headers and limits
 with the sections of FORMATS; the versions with VERSION, and the kit's line with README. It lists each that differs, and ends with 1 if
@@ -11,14 +11,16 @@ sources have in another form by now.
 import collections
 import re
 
+import messages
+
 # The formats by the names that the code gives them, with their sections in FORMATS.
 SECTIONS = {"Graph": "Graph format", "Tree": "Derivation format", "Picks": "Pick format", "Ears": "Ear format", "Moves": "Move format"}
 # The abbreviations of the usage that the manual page writes out.
 WRITTEN_OUT = {"first | last | balanced": "ORDER"}
 # What is compared, and at least how many of each.
 LEAST = {"rows": 18, "pages": 17, "arguments": 20, "ranges": 2, "kinds": 15, "headers": 6, "limits": 7, "versions": 2}
-# What the words for a kind of error are where a format does not have it.
-UNSAID = "a fault of another kind"
+# The text for a kind of error that a format does not have.
+UNSAID = "FAULT_OTHER"
 compared = collections.Counter()
 wrong = []
 
@@ -40,12 +42,15 @@ def constant(source, name):
     return found[1] if found else ""
 
 
-def arms(source, function):
-    """The texts of a function's match, by what stands before each."""
+def arms(source, function, texts):
+    """The texts of a function's match, by what stands before each; each arm has the name of a constant."""
     body = re.search(rf"^(?:pub )?fn {function}\(.*?^}}", source, re.S | re.M)[0]
     found = {}
-    for patterns, text in re.findall(r'^        ([\w:| \n]+?)\s*=>\s*"(.*)",$', body, re.M):
-        found.update({it.split("::")[-1].strip(): text for it in patterns.split("|")})
+    for patterns, name in re.findall(r"^        ([\w:| \n]+?)\s*=>\s*texts::(\w+),$", body, re.M):
+        if name not in texts:
+            wrong.append(f"{function} has the text {name}, which is not there")
+        elif name != UNSAID:
+            found.update({it.split("::")[-1].strip(): texts[name] for it in patterns.split("|")})
     return found
 
 
@@ -86,18 +91,18 @@ def compare_commands(rows, readme):
     same("the commands of bench_tasks", sorted({row.split()[0] for row in rows}), sorted(named))
 
 
-def compare_faults(faults, formats):
-    of_line, of_graph6 = ({kind: words for kind, words in arms(faults, it).items() if words != UNSAID} for it in ("line_fault", "graph6_fault"))
+def compare_faults(faults, texts, formats):
+    of_line, of_graph6 = (arms(faults, it, texts) for it in ("line_fault", "graph6_fault"))
     kinds = {**of_graph6, **of_line}
     table = re.findall(r"^\| \d+ \| ([A-Z]\w+) \| (.*?) \|$", formats[:formats.index("## Graph format")], re.M)
     same("the kinds of FORMATS", kinds, dict(table))
     compared["kinds"] += len(kinds)
-    for role, words in arms(faults, "header_note").items():
+    for role, words in arms(faults, "header_note", texts).items():
         for header in re.findall(r"\b[a-z] mcg2?(?: [A-Z])+", words):
             compared["headers"] += 1
             if f"`{header}`" not in section(formats, role):
                 wrong.append(f"the header `{header}` is not in the section of {role} in FORMATS")
-    for role, words in arms(faults, "limit_note").items():
+    for role, words in arms(faults, "limit_note", texts).items():
         for number in re.findall(r"\b\d[\d,]*\b", words):
             compared["limits"] += 1
             if not re.search(rf"(?<![\d,]){number}(?![\d,])", section(formats, role)):
@@ -241,7 +246,7 @@ def main():
     compare_commands(rows, readme)
     rows += compare_lists(constant(table, "LIST_USAGE"), formats)
     compared.update(rows=len(rows), pages=compare_pages(table))
-    compare_faults(faults, formats)
+    compare_faults(faults, messages.constants(messages.TEXTS), formats)
     for name, which in (("mcg", "VERSION"), ("mcg6", "LIST_VERSION")):
         compared["versions"] += 1
         version, kit = constant(versions, which).splitlines()

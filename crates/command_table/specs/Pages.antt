@@ -4,7 +4,7 @@ use Rattle.std.specs.Prelude.{ℕ, List, [], ◌∷◌, ◌++◌, nat_eq, Bool, 
 use Rattle.std.specs.List.{starts_with}
 use Rattle.command_table.specs.Rows.{Row}
 use Rattle.command_table.specs.declared.pages.TheConstants.{ANALYSE, CONVERT, ANALYSE6, DECOMPOSE, CHECK, CHECKEARS, EARS, COMPARE, SCRIPT, REPLAY, GROW}
-use Rattle.command_table.specs.declared.list_pages.TheConstants.{KINDS, LEAVES, ELEMENTARY, MATCHING, GRAPH, SELECT, ENCODE}
+use Rattle.command_table.specs.declared.list_pages.TheConstants.{KINDS, LEAVES, ELEMENTARY, MATCHING, CUTS, EARS as LIST_EARS, GRAPH, SELECT, ENCODE}
 
 -- the line of a row, if that is the command
 abbrev pub command_line : (command : List ℕ) → Row → List ℕ
@@ -37,6 +37,8 @@ list_page_of command =
     if bytes_eq command (codes "leaves") then Some LEAVES.now else
     if bytes_eq command (codes "elementary") then Some ELEMENTARY.now else
     if bytes_eq command (codes "matching") then Some MATCHING.now else
+    if bytes_eq command (codes "cuts") then Some CUTS.now else
+    if bytes_eq command (codes "ears") then Some LIST_EARS.now else
     if bytes_eq command (codes "graph") then Some GRAPH.now else
     if bytes_eq command (codes "select") then Some SELECT.now else
     if bytes_eq command (codes "encode") then Some ENCODE.now else None

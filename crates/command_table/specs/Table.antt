@@ -132,6 +132,8 @@ list_rows =
     row_with (codes "leaves") [] (one_of (codes "ORDER") orders [] (codes "an ORDER") ∷ skip_file) (codes "a line for each leaf of its decomposition, as a graph") ∷
     row_with (codes "elementary") [] skip_file (codes "a line for each elementary component, as a graph") ∷
     row_with (codes "matching") [] skip_file (codes "a line for each graph: a maximum matching, and D, A and C") ∷
+    row_with (codes "cuts") [] skip_file (codes "a line for each candidate for a tight cut") ∷
+    row_with (codes "ears") [] skip_file (codes "a line for each graph: an ear decomposition") ∷
     row_with (codes "graph") [] file (codes "the file of one graph, for mcg") ∷
     row_with (codes "select") (what ∷ []) skip_file (codes "the lines whose graph has a property") ∷
     row_with (codes "encode") file [] (codes "the line of a file for mcg; parallel edges count once") ∷ []

@@ -57,6 +57,34 @@ misses, so no matching is larger. Any maximum matching may be written.
 Example: mcg6 matching examples/small.g6
 ";
 
+/// The page of `cuts`.
+pub const CUTS: &str = "  cuts [skip] [FILE]           a line for each candidate for a tight cut
+
+The list has a graph in graph6 on each line, and is FILE or, without it, standard input.
+With skip, bad lines are left out and named at the end; the status is then 4.
+A line has the number of the graph's line, its graph6 text, barrier, separation or flow,
+and the shore of a nontrivial tight cut. The lines of a graph are in the order in which
+a file of picks numbers them, from 0. Each edge of each nontrivial tight cut is in the
+cut of some line, so bricks and braces have no line. Graphs that are not matching
+covered have no lines.
+
+Example: mcg6 cuts examples/two_k4.g6
+";
+
+/// The page of `ears`.
+pub const EARS: &str = "  ears [skip] [FILE]           a line for each graph: an ear decomposition
+
+The list has a graph in graph6 on each line, and is FILE or, without it, standard input.
+With skip, bad lines are left out and named at the end; the status is then 4.
+A line has the number of the graph's line, its graph6 text, the numbers of steps with one
+ear and with two, the first edge as A-B, and the steps. An ear is its vertices joined by
+hyphens; the two ears of a step are joined by +. A step has two ears only where no ear
+decomposition goes on by a single ear. Any such ear decomposition may be written. Graphs
+that are not matching covered have no lines.
+
+Example: mcg6 ears examples/small.g6
+";
+
 /// The page of `graph`.
 pub const GRAPH: &str = "  graph [FILE]                 the file of one graph, for mcg
 
@@ -100,6 +128,8 @@ pub fn list_page(command: &str) -> Option<&'static str>
         "leaves" => Some(LEAVES),
         "elementary" => Some(ELEMENTARY),
         "matching" => Some(MATCHING),
+        "cuts" => Some(CUTS),
+        "ears" => Some(EARS),
         "graph" => Some(GRAPH),
         "select" => Some(SELECT),
         "encode" => Some(ENCODE),

@@ -128,7 +128,7 @@ static ROWS: [Row; 12] = [
 ];
 
 /// The table of `mcg6`.
-static LIST_ROWS: [Row; 7] = [
+static LIST_ROWS: [Row; 9] = [
     Row {
         command: "kinds",
         words: &[],
@@ -162,6 +162,18 @@ static LIST_ROWS: [Row; 7] = [
         words: &[],
         optional: &[RowWord::Literal("skip"), RowWord::File("FILE", "a FILE")],
         line: "  matching [skip] [FILE]       a line for each graph: a maximum matching, and D, A and C\n",
+    },
+    Row {
+        command: "cuts",
+        words: &[],
+        optional: &[RowWord::Literal("skip"), RowWord::File("FILE", "a FILE")],
+        line: "  cuts [skip] [FILE]           a line for each candidate for a tight cut\n",
+    },
+    Row {
+        command: "ears",
+        words: &[],
+        optional: &[RowWord::Literal("skip"), RowWord::File("FILE", "a FILE")],
+        line: "  ears [skip] [FILE]           a line for each graph: an ear decomposition\n",
     },
     Row {
         command: "graph",
@@ -224,6 +236,8 @@ const LIST_USAGE: &str = "usage: mcg6 COMMAND WORDS.. <LIST
   leaves [ORDER] [skip] [FILE] a line for each leaf of its decomposition, as a graph
   elementary [skip] [FILE]     a line for each elementary component, as a graph
   matching [skip] [FILE]       a line for each graph: a maximum matching, and D, A and C
+  cuts [skip] [FILE]           a line for each candidate for a tight cut
+  ears [skip] [FILE]           a line for each graph: an ear decomposition
   graph [FILE]                 the file of one graph, for mcg
   select WHAT [skip] [FILE]    the lines whose graph has a property
   encode FILE                  the line of a file for mcg; parallel edges count once

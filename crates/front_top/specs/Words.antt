@@ -10,6 +10,7 @@ use Rattle.bench_top.specs.from_bench_tasks.declared.stop.LoadStop.TheVariants a
 use Rattle.front_words.specs.from_refusals.declared.refusal.Refusal.{Refusal}
 use Rattle.bench_top.specs.from_bench_outcomes.declared.status.Status.{Status}
 use Rattle.bench_top.specs.from_bench_outcomes.declared.status.Status.TheVariants.{Done, Negative, Usage, ReadFault, BadInput, WriteFault, Memory}
+use Rattle.front_words.specs.Endings.{lost_text, nothing_written_text}
 use Rattle.front_words.specs.LinesAt.{line_at}
 use Rattle.front_words.specs.Messages.{bad_file_text, unread_text}
 use Rattle.front_words.specs.Refused.{refused_text}
@@ -58,7 +59,7 @@ refusal_words (Some refusal) = refused_text program refusal
 
 -- if the output could not be written whole
 abbrev pub lost_words : List ℕ
-lost_words = codes "mcg: the output could not be written whole\n"
+lost_words = lost_text program
 
 -- what is said of a run of these words that ended with this status, this stop and this refusal;
 -- nothing if it is done, and nothing if nobody reads the output any more
@@ -69,7 +70,7 @@ run_words words Usage stopped refused is_abandoned = unmatched_text Mcg words
 run_words words ReadFault stopped refused is_abandoned = stop_words stopped
 run_words words BadInput stopped refused is_abandoned = stop_words stopped
 run_words words WriteFault stopped refused is_abandoned = if is_abandoned then [] else lost_words
-run_words words Memory stopped refused is_abandoned = codes "mcg: memory ran out; nothing was written\n"
+run_words words Memory stopped refused is_abandoned = nothing_written_text program
 
 -- what is said of a run of these words: of an answer that could not be written whole, or of this
 -- ending

@@ -10,8 +10,8 @@ use bench_top::outside::Sink;
 use bench_top::{RunEnding, Status};
 use front_words::refusals::Refusal;
 use front_words::{
-    BadFile, Program, Said, line_at, say_bad_file, say_bytes, say_refusal, say_unmatched,
-    say_unread,
+    BadFile, Program, Said, line_at, say_bad_file, say_lost_output, say_nothing_written,
+    say_refusal, say_unmatched, say_unread,
 };
 use line_text::FaultKind;
 
@@ -100,7 +100,7 @@ fn say_refused<E: Sink>(errors: &mut E, refusal: Option<Refusal>) -> Said
 pub fn say_lost<E: Sink>(errors: &mut E) -> Said
     ensures { Says E.written E.writes E.faults lost_words result errors.old errors.new }
 {
-    say_bytes(errors, b"mcg: the output could not be written whole\n")
+    say_lost_output(errors, PROGRAM)
 }
 
 /// Says what the ending of a run of these words means; nothing if it is done. Takes no memory.
@@ -121,6 +121,6 @@ pub fn say_ending<E: Sink>(
         Status::ReadFault | Status::BadInput => say_stop(errors, &ending.stop),
         Status::WriteFault if is_abandoned => say_nothing(errors),
         Status::WriteFault => say_lost(errors),
-        Status::Memory => say_bytes(errors, b"mcg: memory ran out; nothing was written\n"),
+        Status::Memory => say_nothing_written(errors, PROGRAM),
     }
 }

@@ -2,6 +2,7 @@
 -- Idea: each definition is by recursion on the count, so it unfolds once at 0 and once at `suc`.
 use Rattle.std.proofs.Common.{◌≡◌, ◌∙◌, ◌≤◌, ◌<◌, ℕ, ◌+◌, ◌-◌, zero, suc, List, [], ◌++◌, refl, sym, ap, arith, codes, Bool, true, false, cond, not, ◌||◌, SomeIff, append-nil, nat_lt, decimal, Option, None, Some}
 use Rattle.std.proofs.lemmas.Bool.Decides.{nat_tests}
+use Rattle.front_words.specs.declared.texts.TheConstants as texts
 use Rattle.front_words.specs.Shores.{highest_named, is_cut, leaves_some, names, other_shore_note, others_text, width}
 
 -- where no number is one less, the number is 0
@@ -100,5 +101,5 @@ others-said line n fewer next left wide is unmet same enough =
 
 -- the note where the line is that of a cut, and leaves some vertex to the other shore
 pub known-shore : (line : List ℕ) (order : ℕ) (cut leaves : Bool) → cut ≡ is_cut line → leaves ≡ leaves_some line order → cut ≡ true → leaves ≡ true →
-    other_shore_note line order ≡ codes " (write the other shore: cut" ++ (others_text line order 1 57 ++ codes ")")
+    other_shore_note line order ≡ texts.SHORE_OTHER.now ++ (others_text line order 1 57 ++ codes ")")
 known-shore line order cut leaves is_it some met also = rw (← is_it, ← some, met, also) refl

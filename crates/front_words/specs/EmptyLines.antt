@@ -5,6 +5,7 @@ use Rattle.refusals.specs.declared.file_kind.FileKind.{FileKind}
 use Rattle.refusals.specs.declared.file_kind.FileKind.TheVariants.{Graph, Graph6, Tree, Picks, Ears, Moves}
 use Rattle.front_words.specs.LinesAt.{line_at}
 use Rattle.front_words.specs.Showing.{shown}
+use Rattle.front_words.specs.declared.texts.TheConstants as texts
 
 -- a line without bytes, but for a carriage return
 abbrev pub is_empty_line : Option (List ℕ) → Bool
@@ -27,9 +28,9 @@ empty_line_in Moves beginning = None
 
 -- a line is empty, and how that comes about
 abbrev pub empty_words : List ℕ
-empty_words = codes "is empty (to_graph6_bytes of NetworkX ends its line already, so print adds an empty one)"
+empty_words = texts.LINE_EMPTY.now
 
 -- the file of that name has an empty line of that number
 abbrev pub empty_line_text : (program name : List ℕ) → (line : ℕ) → List ℕ
 empty_line_text program name line =
-    program ++ (codes ": " ++ (shown 4096 name ++ (codes ", line " ++ (decimal line ++ (codes " " ++ (empty_words ++ codes "\n"))))))
+    program ++ (codes ": " ++ (shown 4096 name ++ (texts.IN_LINE.now ++ (decimal line ++ (codes " " ++ (empty_words ++ codes "\n"))))))

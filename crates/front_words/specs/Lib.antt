@@ -1,3 +1,4 @@
+pub mod Texts
 pub mod Saying
 pub mod Showing
 pub mod UnitsSeen
@@ -5,6 +6,7 @@ pub mod NodePlaces
 pub mod Pieces
 pub mod Faults
 pub mod Reasons
+pub mod Endings
 pub mod NotText
 pub mod Openings
 pub mod LinesAt

@@ -14,15 +14,16 @@ use Rattle.front_words.specs.Messages.{line_shown, some_line}
 use Rattle.front_words.specs.Openings.{opening_note}
 use Rattle.front_words.specs.Reasons.{reason_words}
 use Rattle.front_words.specs.Unread.{unread_noted_text}
+use Rattle.front_words.specs.declared.texts.TheConstants as texts
 
 -- what is added where a dash is to stand for standard input, which is what is read without a name
 abbrev pub list_dash_note : (name : List ℕ) → List ℕ
-list_dash_note name = if bytes_eq name (codes "-") then codes " (for standard input leave the name out)" else []
+list_dash_note name = if bytes_eq name (codes "-") then texts.DASH_LIST.now else []
 
 -- the list in the file of that name, or with none that of standard input, could not be read, for
 -- that reason
 abbrev pub unread_list_text : (program : List ℕ) → Option (List ℕ) → Option FailureReason → List ℕ
-unread_list_text program None reason = program ++ (codes ": cannot read standard input: " ++ (reason_words reason ++ codes "\n"))
+unread_list_text program None reason = program ++ (texts.CANNOT_READ_INPUT.now ++ (reason_words reason ++ codes "\n"))
 unread_list_text program (Some name) reason = unread_noted_text program name reason (list_dash_note name)
 
 -- a line of a list of which only its line end is left
@@ -33,12 +34,12 @@ is_blank_line text = bytes_eq text (codes "\n") || bytes_eq text (codes "\r\n")
 -- end of the list
 abbrev pub short_line : (text : List ℕ) → List ℕ
 short_line text =
-    if length text == 0 then codes "the list ends before a graph" else graph6_fault Missing
+    if length text == 0 then texts.LIST_ENDS.now else graph6_fault Missing
 
 -- a line of a list that passes a limit
 abbrev pub long_line : (text : List ℕ) → List ℕ
 long_line text =
-    if nat_lt most_line (length text) then codes "it has more than 65,536 bytes, the most that a line of a list may have" else graph6_fault Limit
+    if nat_lt most_line (length text) then texts.LINE_TOO_LONG.now else graph6_fault Limit
 
 -- a fault of that kind in a line of a list with this text
 abbrev pub list_fault : FaultKind → (text : List ℕ) → List ℕ
@@ -60,7 +61,7 @@ list_fault LongForm text = graph6_fault LongForm
 
 -- what joins the numbers of the line and of the kind to what is wrong with the line
 abbrev pub list_joint : (text : List ℕ) → List ℕ
-list_joint text = if is_blank_line text then codes ": the line " else codes ": "
+list_joint text = if is_blank_line text then texts.THE_LINE.now else codes ": "
 
 -- what is wrong with the line: it is empty, or has a fault of that kind
 abbrev pub bad_line_words : FaultKind → (text : List ℕ) → List ℕ
@@ -74,4 +75,4 @@ line_kept text = some_line (line_at text 1)
 -- it was kept: the message begins with the two numbers, which programs read
 abbrev pub bad_line_text : (program : List ℕ) (number : ℕ) (kind : FaultKind) (text : List ℕ) → List ℕ
 bad_line_text program number kind text =
-    program ++ (codes ": line " ++ (decimal number ++ (codes " kind " ++ (decimal (kind_number kind) ++ (list_joint text ++ (bad_line_words kind text ++ (opening_note text ++ (codes "\n" ++ line_shown program number (line_kept text)))))))))
+    program ++ (texts.LINE.now ++ (decimal number ++ (texts.KIND.now ++ (decimal (kind_number kind) ++ (list_joint text ++ (bad_line_words kind text ++ (opening_note text ++ (codes "\n" ++ line_shown program number (line_kept text)))))))))

@@ -8,11 +8,12 @@ use Rattle.front_words.specs.Faults.{fault_words}
 use Rattle.front_words.specs.Notes.{file_note}
 use Rattle.front_words.specs.Showing.{shown}
 pub use Rattle.front_words.specs.Unread.{unread_text}
+use Rattle.front_words.specs.declared.texts.TheConstants as texts
 
 -- the file of that name is too long
 abbrev pub too_long_text : (program name : List ℕ) → List ℕ
 too_long_text program name =
-    program ++ (codes ": " ++ (shown 4096 name ++ codes ": it has more than 1,048,576 bytes, the most that a file may have\n"))
+    program ++ (codes ": " ++ (shown 4096 name ++ (texts.FILE_TOO_LONG.now ++ codes "\n")))
 
 -- a line that is known and is not empty
 abbrev pub some_line : Option (List ℕ) → Option (List ℕ)
@@ -23,12 +24,12 @@ some_line (Some (byte ∷ text)) = Some (byte ∷ text)
 -- the line with that number, if there is one to show
 abbrev pub line_shown : (program : List ℕ) (line : ℕ) → Option (List ℕ) → List ℕ
 line_shown program line None = []
-line_shown program line (Some text) = program ++ (codes ": line " ++ (decimal line ++ (codes " is: " ++ (shown 60 text ++ codes "\n"))))
+line_shown program line (Some text) = program ++ (texts.LINE.now ++ (decimal line ++ (texts.LINE_IS.now ++ (shown 60 text ++ codes "\n"))))
 
 -- the name of the file, the line at fault, and what is wrong with it
 abbrev pub what_text : (program : List ℕ) → BadFileSeen → List ℕ
 what_text program bad =
-    program ++ (codes ": " ++ (shown 4096 bad.name ++ (codes ", line " ++ (decimal bad.line ++ (codes ": " ++ fault_words bad.file_kind bad.kind)))))
+    program ++ (codes ": " ++ (shown 4096 bad.name ++ (texts.IN_LINE.now ++ (decimal bad.line ++ (codes ": " ++ fault_words bad.file_kind bad.kind)))))
 
 -- the rest of a message after its note: the end of its line, and the text of the line at fault, if
 -- there is one to show

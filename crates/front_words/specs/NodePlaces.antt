@@ -3,6 +3,7 @@
 use Rattle.std.specs.Prelude.{ℕ, zero, suc, ◌+◌, ◌==◌, Bool, List, [], ◌∷◌, ◌++◌, codes, if◌then◌else◌, decimal, Option, None, Some}
 use Rattle.std.specs.List.{list_any}
 use Rattle.refusals.specs.declared.places.NodePlace.{NodePlace}
+use Rattle.front_words.specs.declared.texts.TheConstants as texts
 
 -- the step is one of these
 abbrev pub is_merged : (merged : List ℕ) (step : ℕ) → Bool
@@ -29,11 +30,11 @@ spaced_numbers (number ∷ numbers) = (codes " " ++ decimal number) ++ spaced_nu
 -- the shore at a node, if the node is no leaf
 abbrev pub shore_text : Option (List ℕ) → List ℕ
 shore_text None = []
-shore_text (Some shore) = codes ", shore" ++ spaced_numbers shore
+shore_text (Some shore) = texts.SHORE.now ++ spaced_numbers shore
 
 -- the path to a node, and its shore
 abbrev pub known_place_text : NodePlace → List ℕ
-known_place_text place = codes "; path " ++ (path_text place.depth place.merged ++ shore_text place.shore)
+known_place_text place = texts.PATH.now ++ (path_text place.depth place.merged ++ shore_text place.shore)
 
 -- the same, if they are known
 abbrev pub place_text : Option NodePlace → List ℕ

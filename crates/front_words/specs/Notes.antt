@@ -9,15 +9,16 @@ use Rattle.refusals.specs.declared.file_kind.FileKind.TheVariants.{Graph, Graph6
 use Rattle.front_words.specs.Faults.{header_note, note_words}
 use Rattle.front_words.specs.Openings.{beginning_note, misplaced_note, note_or}
 use Rattle.front_words.specs.Shores.{shore_note}
+use Rattle.front_words.specs.declared.texts.TheConstants as texts
 
 -- the header that is due in a file for a graph with these numbers of vertices and of edges
 abbrev pub due_note : FileKind → (sizes : ℕ × ℕ) → List ℕ
 due_note Graph sizes = header_note Graph
 due_note Graph6 sizes = header_note Graph6
-due_note Tree sizes = codes " (here t mcg " ++ (decimal sizes.0 ++ codes ")")
+due_note Tree sizes = texts.DUE_TREE.now ++ (decimal sizes.0 ++ codes ")")
 due_note Picks sizes = header_note Picks
-due_note Ears sizes = codes " (here r mcg " ++ (decimal sizes.0 ++ (codes " " ++ (decimal sizes.1 ++ codes ")")))
-due_note Moves sizes = codes " (here m mcg " ++ (decimal sizes.0 ++ codes ")")
+due_note Ears sizes = texts.DUE_EARS.now ++ (decimal sizes.0 ++ (codes " " ++ (decimal sizes.1 ++ codes ")")))
+due_note Moves sizes = texts.DUE_MOVES.now ++ (decimal sizes.0 ++ codes ")")
 
 -- the same, if these numbers are known; and else the header of the format
 abbrev pub header_text : FileKind → (sizes : Option (ℕ × ℕ)) → List ℕ

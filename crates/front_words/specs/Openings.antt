@@ -5,6 +5,7 @@ use Rattle.std.specs.Prelude.{ℕ, List, [], ◌∷◌, nat_eq, Bool, codes, if�
 use Rattle.std.specs.List.{starts_with}
 use Rattle.refusals.specs.declared.file_kind.FileKind.{FileKind}
 use Rattle.refusals.specs.declared.file_kind.FileKind.TheVariants.{Graph, Graph6, Tree, Picks, Ears, Moves}
+use Rattle.front_words.specs.declared.texts.TheConstants as texts
 
 -- the text begins with these bytes
 abbrev pub opens : List ℕ → List ℕ → Bool
@@ -18,36 +19,36 @@ note_or (byte ∷ note) other = byte ∷ note
 -- a note on a text that is no file of lines; nothing on others
 abbrev pub coding_note : List ℕ → List ℕ
 coding_note text =
-    if opens text (239 ∷ 187 ∷ 191 ∷ []) then codes " (it begins with a byte order mark; save it without one)" else
-    if opens text (31 ∷ 139 ∷ []) then codes " (it begins as a file of gzip; zcat reads it)" else []
+    if opens text (239 ∷ 187 ∷ 191 ∷ []) then texts.BEGINS_MARKED.now else
+    if opens text (31 ∷ 139 ∷ []) then texts.BEGINS_GZIP.now else []
 
 -- a note on a text that begins as a format of graphs that is not read here; nothing on others
 abbrev pub format_note : List ℕ → List ℕ
 format_note text =
-    if opens text (codes ">>sparse6<<") then codes " (it begins as sparse6; copyg -g makes graph6 of it)" else
-    if opens text (codes ":") then codes " (it begins as sparse6; copyg -g makes graph6 of it)" else
-    if opens text (codes ">>digraph6<<") then codes " (it begins as digraph6; only undirected graphs are read)" else
-    if opens text (codes "&") then codes " (it begins as digraph6; only undirected graphs are read)" else
-    if opens text (codes ">>planar_code<<") then codes " (it begins as planar_code; plantri -g writes graph6 instead)" else []
+    if opens text (codes ">>sparse6<<") then texts.BEGINS_SPARSE6.now else
+    if opens text (codes ":") then texts.BEGINS_SPARSE6.now else
+    if opens text (codes ">>digraph6<<") then texts.BEGINS_DIGRAPH6.now else
+    if opens text (codes "&") then texts.BEGINS_DIGRAPH6.now else
+    if opens text (codes ">>planar_code<<") then texts.BEGINS_PLANAR.now else []
 
 -- a note on a text that begins as a graph file, where graph6 is wanted; nothing on others
 abbrev pub graph_file_note : List ℕ → List ℕ
 graph_file_note text =
-    if opens text (codes "p mcg") then codes " (it begins as a graph file; mcg6 encode makes graph6 of it)" else
-    if opens text (codes "c ") then codes " (it begins as a graph file; mcg6 encode makes graph6 of it)" else []
+    if opens text (codes "p mcg") then texts.BEGINS_GRAPH.now else
+    if opens text (codes "c ") then texts.BEGINS_GRAPH.now else []
 
 -- a note on a text that begins as graph6, where a graph file is wanted; nothing on others
 abbrev pub graph6_note : List ℕ → List ℕ
-graph6_note text = if opens text (codes ">>graph6<<") then codes " (it begins as graph6; mcg analyse6 and mcg6 read it)" else []
+graph6_note text = if opens text (codes ">>graph6<<") then texts.BEGINS_GRAPH6.now else []
 
 -- a note on the header of a graph file where a file for one is wanted, with what makes that of it
 abbrev pub beside_note : FileKind → List ℕ
 beside_note Graph = []
 beside_note Graph6 = []
-beside_note Tree = codes " (this is a graph file; mcg decompose makes a derivation of one)"
-beside_note Picks = codes " (this is a graph file, which comes first)"
-beside_note Ears = codes " (this is a graph file; mcg ears makes an ear list of one)"
-beside_note Moves = codes " (this is a graph file, which comes first)"
+beside_note Tree = texts.GRAPH_FOR_TREE.now
+beside_note Picks = texts.GRAPH_FIRST.now
+beside_note Ears = texts.GRAPH_FOR_EARS.now
+beside_note Moves = texts.GRAPH_FIRST.now
 
 -- the same for the line at fault, if it is known; nothing if it is no such header
 abbrev pub misplaced_note : FileKind → (line : Option (List ℕ)) → List ℕ

@@ -8,17 +8,18 @@ use Rattle.refusals.specs.declared.refusal.Refusal.TheVariants.{Graph, Tree, Ear
 use Rattle.front_words.specs.RefusedEars.{refused_ears_text}
 use Rattle.front_words.specs.RefusedTrees.{moved_text, refused_tree_text}
 use Rattle.front_words.specs.Uncovered.{uncovered_text}
+use Rattle.front_words.specs.declared.texts.TheConstants as texts
 
 -- why a move has no result, and what would be right
 abbrev pub stuck_words : StuckFault → List ℕ
-stuck_words NoCut = codes "its path does not lead to a cut that it can change (rotate needs a cut below the root)"
-stuck_words Crossing = codes "the shore of its cut crosses that of the cut above (rotate another cut)"
-stuck_words NotParts = codes "its sets must be nonempty proper subsets of the shore and of its complement"
+stuck_words NoCut = texts.STUCK_NO_CUT.now
+stuck_words Crossing = texts.STUCK_CROSSING.now
+stuck_words NotParts = texts.STUCK_NOT_PARTS.now
 
 -- a move has no result
 abbrev pub stuck_move_text : (program : List ℕ) (step : ℕ) → StuckFault → List ℕ
 stuck_move_text program step fault =
-    program ++ (codes ": move " ++ (decimal step ++ (codes " has no result: " ++ (stuck_words fault ++ codes "\n"))))
+    program ++ (texts.MOVE.now ++ (decimal step ++ (texts.NO_RESULT.now ++ (stuck_words fault ++ codes "\n"))))
 
 -- what a refusal means in words
 abbrev pub refused_text : (program : List ℕ) → Refusal → List ℕ

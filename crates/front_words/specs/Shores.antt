@@ -3,6 +3,7 @@
 use Rattle.std.specs.Prelude.{ℕ, zero, suc, ◌+◌, ◌-◌, ◌==◌, ◌||◌, ◌&&◌, not, List, [], ◌++◌, Bool, false, true, fold, length, nat_le, nat_lt, codes, if◌then◌else◌, decimal, bytes_eq, Option, None, Some}
 use Rattle.std.specs.List.{slice_split}
 use Rattle.line_text.specs.Common.{is_blank, number_of}
+use Rattle.front_words.specs.declared.texts.TheConstants as texts
 
 -- the pieces of a line between its blanks: its words, and an empty one for each further blank
 abbrev pub pieces_of : (line : List ℕ) → List (List ℕ)
@@ -63,12 +64,12 @@ others_text line (suc count) next left =
 
 -- what to write for a shore with the highest-numbered vertex, if its line is not known
 abbrev pub plain_shore_note : List ℕ
-plain_shore_note = codes " (write the other shore of this cut)"
+plain_shore_note = texts.SHORE_PLAIN.now
 
 -- the other shore, in a graph with so many vertices
 abbrev pub other_shore_note : (line : List ℕ) → (order : ℕ) → List ℕ
 other_shore_note line order =
-    if is_cut line && leaves_some line order then codes " (write the other shore: cut" ++ (others_text line order 1 57 ++ codes ")") else plain_shore_note
+    if is_cut line && leaves_some line order then texts.SHORE_OTHER.now ++ (others_text line order 1 57 ++ codes ")") else plain_shore_note
 
 -- what to write for a shore with the highest-numbered vertex; this is the highest on its line, if
 -- that is known

@@ -3,14 +3,15 @@
 use Rattle.std.specs.Prelude.{ℕ, List, ◌++◌, codes, decimal}
 use Rattle.refusals.specs.declared.faults.CoverFault.{CoverFault}
 use Rattle.refusals.specs.declared.faults.CoverFault.TheVariants.{Small, Parted, Unmatched, Unallowed}
+use Rattle.front_words.specs.declared.texts.TheConstants as texts
 
 -- why a graph is not matching covered
 abbrev pub cover_words : CoverFault → List ℕ
-cover_words Small = codes "it has fewer than two vertices\n"
-cover_words (Parted a b) = codes "it is disconnected, as no path leads from vertex " ++ (decimal a ++ (codes " to vertex " ++ (decimal b ++ codes " (take one component)\n")))
-cover_words Unmatched = codes "it has no perfect matching, as without the vertices shown it has more odd components than these are\n"
-cover_words (Unallowed edge) = codes "edge " ++ (decimal edge ++ codes " is in no perfect matching (leave out such edges: analyse lists the others as allowed)\n")
+cover_words Small = texts.COVER_SMALL.now ++ codes "\n"
+cover_words (Parted a b) = texts.COVER_PARTED.now ++ (decimal a ++ (texts.COVER_PARTED_TO.now ++ (decimal b ++ (texts.COVER_PARTED_END.now ++ codes "\n"))))
+cover_words Unmatched = texts.COVER_UNMATCHED.now ++ codes "\n"
+cover_words (Unallowed edge) = texts.COVER_EDGE.now ++ (decimal edge ++ (texts.COVER_EDGE_END.now ++ codes "\n"))
 
 -- the graph is not matching covered, and why
 abbrev pub uncovered_text : (program : List ℕ) → CoverFault → List ℕ
-uncovered_text program fault = (program ++ codes ": the graph is not matching covered: ") ++ cover_words fault
+uncovered_text program fault = (program ++ texts.NOT_COVERED.now) ++ cover_words fault

@@ -8,14 +8,15 @@ use Rattle.front_words.specs.Answers.{is_help}
 use Rattle.front_words.specs.Programs.{name_of, program_rows, program_usage}
 use Rattle.front_words.specs.Showing.{shown}
 use Rattle.front_words.specs.declared.programs.Program.{Program}
+use Rattle.front_words.specs.declared.texts.TheConstants as texts
 
 -- the words match no row for this reason
 abbrev pub some_reason_text : (program command : List ℕ) → Mismatch → List ℕ
 some_reason_text program command Unknown =
-    program ++ (codes ": no command " ++ (shown 60 command ++ (codes "; " ++ (program ++ codes " --help lists them\n"))))
-some_reason_text program command TooMany = program ++ (codes ": too many arguments for " ++ (shown 60 command ++ codes "\n"))
+    program ++ (texts.NO_COMMAND.now ++ (shown 60 command ++ (codes "; " ++ (program ++ (texts.HELP_LISTS.now ++ codes "\n")))))
+some_reason_text program command TooMany = program ++ (texts.TOO_MANY.now ++ (shown 60 command ++ codes "\n"))
 some_reason_text program command (TooFew missing) =
-    program ++ (codes ": " ++ (shown 60 command ++ (codes " needs " ++ (word_need missing ++ codes "\n"))))
+    program ++ (codes ": " ++ (shown 60 command ++ (texts.NEEDS.now ++ (word_need missing ++ codes "\n"))))
 some_reason_text program command (Wrong wanted) = program ++ (codes ": " ++ (word_meaning wanted ++ codes "\n"))
 
 -- why the words match no row; nothing if they match one
@@ -49,7 +50,7 @@ help_beyond (word ∷ next ∷ third ∷ words) = if is_help word then Some word
 -- there are too many words behind the one that asks for help
 abbrev pub help_text : (program word : List ℕ) → List ℕ
 help_text program word =
-    program ++ (codes ": too many arguments for " ++ (shown 60 word ++ codes "; it takes at most one command\n"))
+    program ++ (texts.TOO_MANY.now ++ (shown 60 word ++ (texts.ONE_COMMAND.now ++ codes "\n")))
 
 -- the same where one asks so, and else the text
 abbrev pub unless_help : Option (List ℕ) → (program text : List ℕ) → List ℕ

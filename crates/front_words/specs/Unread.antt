@@ -4,15 +4,16 @@ use Rattle.std.specs.Prelude.{ℕ, List, [], ◌++◌, codes, if◌then◌else�
 use Rattle.outside.specs.declared.explain.FailureReason.{FailureReason}
 use Rattle.front_words.specs.Reasons.{reason_words}
 use Rattle.front_words.specs.Showing.{shown}
+use Rattle.front_words.specs.declared.texts.TheConstants as texts
 
 -- what is added where a dash is to stand for standard input
 abbrev pub dash_note : (name : List ℕ) → List ℕ
-dash_note name = if bytes_eq name (codes "-") then codes " (for standard input write /dev/stdin)" else []
+dash_note name = if bytes_eq name (codes "-") then texts.DASH_FILE.now else []
 
 -- the file of that name could not be read, for that reason, with a note
 abbrev pub unread_noted_text : (program name : List ℕ) → Option FailureReason → (note : List ℕ) → List ℕ
 unread_noted_text program name reason note =
-    program ++ (codes ": cannot read " ++ (shown 4096 name ++ (codes ": " ++ (reason_words reason ++ (note ++ codes "\n")))))
+    program ++ (texts.CANNOT_READ.now ++ (shown 4096 name ++ (codes ": " ++ (reason_words reason ++ (note ++ codes "\n")))))
 
 -- the same with the note on a dash
 abbrev pub unread_text : (program name : List ℕ) → Option FailureReason → List ℕ

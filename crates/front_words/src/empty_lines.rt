@@ -7,13 +7,10 @@ ghost use Rattle.front_words.specs.Saying.{Says};
 use crate::lines::line_at;
 use crate::pieces::MessagePiece::{Number, Shown, Text};
 use crate::pieces::{Said, say};
+use crate::texts;
 use crate::unread::MOST_OF_NAME;
 use outside::Sink;
 use refusals::FileKind;
-
-/// That a line is empty, and how that comes about.
-pub const EMPTY: &str =
-    "is empty (to_graph6_bytes of NetworkX ends its line already, so print adds an empty one)";
 
 // Whether the line, if there is one, has no bytes but a carriage return.
 fn is_empty_line(line: Option<&[u8]>) -> bool
@@ -60,10 +57,10 @@ pub fn say_empty_line<'a, K: Sink>(sink: &mut K, program: &'a str, name: &'a str
             Text(program),
             Text(": "),
             Shown(name.as_bytes(), MOST_OF_NAME),
-            Text(", line "),
+            Text(texts::IN_LINE),
             Number(line as u64),
             Text(" "),
-            Text(EMPTY),
+            Text(texts::LINE_EMPTY),
             Text("\n"),
         ],
     )

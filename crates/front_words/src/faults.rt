@@ -2,6 +2,7 @@
 ghost use Rattle.std.specs.Prelude.{◌≡◌};
 ghost use Rattle.front_words.specs.Faults.{fault_words, graph6_fault, header_note, limit_note, line_fault, note_words, reader_note};
 
+use crate::texts;
 use line_text::FaultKind;
 use refusals::FileKind;
 
@@ -10,20 +11,20 @@ fn line_fault(kind: FaultKind) -> &'static str
     ensures { result.now ≡ line_fault kind }
 {
     match kind {
-        FaultKind::Header => "the header is missing, or is not that of this format and graph",
-        FaultKind::Word => "a wrong first word, or a wrong number of words",
-        FaultKind::Number => "a word that must be a number is not one",
-        FaultKind::Range => "a vertex or edge number is 0 or too great",
-        FaultKind::Loop => "the two ends of an edge are equal",
-        FaultKind::Limit => "a stated limit is passed",
-        FaultKind::Missing => "the file ends before the format does",
-        FaultKind::Extra => "a line too many, after the end of the format",
-        FaultKind::NotRising => "numbers that must rise do not",
-        FaultKind::HasGreatest => "a shore holds the greatest vertex",
-        FaultKind::Unnamed => "a word that must be the name of a vertex is not one",
-        FaultKind::SameName => "a name is given twice",
-        FaultKind::BadName => "not a name: one has 1 to 16 letters, digits, _, - or .",
-        FaultKind::Padding | FaultKind::LongForm => "a fault of another kind",
+        FaultKind::Header => texts::FAULT_HEADER,
+        FaultKind::Word => texts::FAULT_WORD,
+        FaultKind::Number => texts::FAULT_NUMBER,
+        FaultKind::Range => texts::FAULT_RANGE,
+        FaultKind::Loop => texts::FAULT_LOOP,
+        FaultKind::Limit => texts::FAULT_LIMIT,
+        FaultKind::Missing => texts::FAULT_MISSING,
+        FaultKind::Extra => texts::FAULT_EXTRA,
+        FaultKind::NotRising => texts::FAULT_NOT_RISING,
+        FaultKind::HasGreatest => texts::FAULT_HAS_GREATEST,
+        FaultKind::Unnamed => texts::FAULT_UNNAMED,
+        FaultKind::SameName => texts::FAULT_SAME_NAME,
+        FaultKind::BadName => texts::FAULT_BAD_NAME,
+        FaultKind::Padding | FaultKind::LongForm => texts::FAULT_OTHER,
     }
 }
 
@@ -32,12 +33,12 @@ fn graph6_fault(kind: FaultKind) -> &'static str
     ensures { result.now ≡ graph6_fault kind }
 {
     match kind {
-        FaultKind::Range => "a byte is outside 63 to 126, as graph6 has them",
-        FaultKind::Limit => "more than 128 vertices or 2,048 edges",
-        FaultKind::Missing => "the text ends before the graph does",
-        FaultKind::Extra => "more than one graph, or bytes after its end",
-        FaultKind::Padding => "a filling bit is set",
-        FaultKind::LongForm => "a size up to 62 is written in four bytes",
+        FaultKind::Range => texts::GRAPH6_RANGE,
+        FaultKind::Limit => texts::GRAPH6_LIMIT,
+        FaultKind::Missing => texts::GRAPH6_MISSING,
+        FaultKind::Extra => texts::GRAPH6_EXTRA,
+        FaultKind::Padding => texts::GRAPH6_PADDING,
+        FaultKind::LongForm => texts::GRAPH6_LONG_FORM,
         FaultKind::Header
         | FaultKind::Word
         | FaultKind::Number
@@ -46,7 +47,7 @@ fn graph6_fault(kind: FaultKind) -> &'static str
         | FaultKind::HasGreatest
         | FaultKind::Unnamed
         | FaultKind::SameName
-        | FaultKind::BadName => "a fault of another kind",
+        | FaultKind::BadName => texts::FAULT_OTHER,
     }
 }
 
@@ -66,12 +67,12 @@ pub fn header_note(file_kind: FileKind) -> &'static str
     ensures { result.now ≡ header_note file_kind }
 {
     match file_kind {
-        FileKind::Graph => " (here p mcg N M or p mcg2 N M; analyse6 reads graph6)",
+        FileKind::Graph => texts::HEADER_GRAPH,
         FileKind::Graph6 => "",
-        FileKind::Tree => " (here t mcg N, with the N of the graph)",
-        FileKind::Picks => " (here s mcg K)",
-        FileKind::Ears => " (here r mcg N M, with the N and M of the graph)",
-        FileKind::Moves => " (here m mcg N, with the N of the graph)",
+        FileKind::Tree => texts::HEADER_TREE,
+        FileKind::Picks => texts::HEADER_PICKS,
+        FileKind::Ears => texts::HEADER_EARS,
+        FileKind::Moves => texts::HEADER_MOVES,
     }
 }
 
@@ -80,12 +81,12 @@ fn limit_note(file_kind: FileKind) -> &'static str
     ensures { result.now ≡ limit_note file_kind }
 {
     match file_kind {
-        FileKind::Graph => " (p mcg: 64 vertices, 512 edges; p mcg2: 128 and 2,048)",
+        FileKind::Graph => texts::LIMIT_GRAPH,
         FileKind::Graph6 => "",
-        FileKind::Tree => " (127 nodes)",
-        FileKind::Picks => " (127 picks)",
+        FileKind::Tree => texts::LIMIT_TREE,
+        FileKind::Picks => texts::LIMIT_PICKS,
         FileKind::Ears => "",
-        FileKind::Moves => " (20,000 moves)",
+        FileKind::Moves => texts::LIMIT_MOVES,
     }
 }
 
@@ -94,7 +95,7 @@ fn reader_note(file_kind: FileKind) -> &'static str
     ensures { result.now ≡ reader_note file_kind }
 {
     match file_kind {
-        FileKind::Graph6 => " (mcg6 reads lists, analyse the format of mcg)",
+        FileKind::Graph6 => texts::READER_GRAPH6,
         FileKind::Graph | FileKind::Tree | FileKind::Picks | FileKind::Ears | FileKind::Moves => "",
     }
 }
@@ -108,7 +109,7 @@ pub fn note_words(file_kind: FileKind, kind: FaultKind) -> &'static str
         FaultKind::Header => header_note(file_kind),
         FaultKind::Limit => limit_note(file_kind),
         FaultKind::Extra => reader_note(file_kind),
-        FaultKind::HasGreatest => " (write the other shore of this cut)",
+        FaultKind::HasGreatest => texts::SHORE_PLAIN,
         FaultKind::Word
         | FaultKind::Number
         | FaultKind::Range

@@ -17,7 +17,9 @@
 
 mod answers;
 mod empty_lines;
+mod endings;
 mod faults;
+mod laws;
 mod lines;
 mod list_messages;
 mod messages;
@@ -35,6 +37,7 @@ mod refused_trees;
 mod shores;
 mod showing;
 mod table;
+mod texts;
 mod uncovered;
 mod unmatched;
 mod unread;
@@ -42,7 +45,9 @@ mod unread;
 // Passed on to the crates above.
 pub use answers::{answer, answer_of};
 pub use arguments;
+pub use endings::{say_first_lines, say_lost_output, say_nothing_written};
 pub use faults::{fault_words, note_words};
+pub use laws::texts_law;
 pub use lines::line_at;
 pub use list_messages::{say_bad_line, say_unread_list};
 pub use messages::{BadFile, say_bad_file};

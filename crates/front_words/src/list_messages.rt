@@ -4,7 +4,6 @@ ghost use Rattle.std.specs.Option.{option_map};
 ghost use Rattle.front_words.specs.ListMessages.{bad_line_text, is_blank_line, line_kept, list_dash_note, list_fault, list_joint, bad_line_words, long_line, short_line, unread_list_text};
 ghost use Rattle.front_words.specs.Saying.{Says};
 
-use crate::empty_lines::EMPTY;
 use crate::faults::fault_words;
 use crate::lines::line_at;
 use crate::messages::{MOST_OF_LINE, some_line};
@@ -12,6 +11,7 @@ use crate::openings::opening_note;
 use crate::pieces::MessagePiece::{Number, Shown, Text};
 use crate::pieces::{Said, say};
 use crate::reasons::reason_words;
+use crate::texts;
 use crate::unread::say_unread_noted;
 use line_text::FaultKind;
 use outside::{FailureReason, MOST_LINE, Sink};
@@ -22,7 +22,7 @@ fn list_dash_note(name: &str) -> &'static str
     ensures { result.now ≡ list_dash_note name.now }
 {
     match name {
-        "-" => " (for standard input leave the name out)",
+        "-" => texts::DASH_LIST,
         _ => "",
     }
 }
@@ -51,7 +51,7 @@ fn say_unread_input<K: Sink>(sink: &mut K, program: &str, reason: Option<Failure
         sink.new }
 {
     let why = Text(reason_words(reason));
-    let words = Text(": cannot read standard input: ");
+    let words = Text(texts::CANNOT_READ_INPUT);
     say(sink, &[Text(program), words, why, Text("\n")])
 }
 
@@ -61,7 +61,7 @@ fn short_line(text: &[u8]) -> &'static str
     ensures { result.now ≡ short_line text.now }
 {
     if text.is_empty() {
-        "the list ends before a graph"
+        texts::LIST_ENDS
     } else {
         fault_words(FileKind::Graph6, FaultKind::Missing)
     }
@@ -72,7 +72,7 @@ fn long_line(text: &[u8]) -> &'static str
     ensures { result.now ≡ long_line text.now }
 {
     if text.len() > MOST_LINE {
-        "it has more than 65,536 bytes, the most that a line of a list may have"
+        texts::LINE_TOO_LONG
     } else {
         fault_words(FileKind::Graph6, FaultKind::Limit)
     }
@@ -113,7 +113,7 @@ fn list_joint(text: &[u8]) -> &'static str
     ensures { result.now ≡ list_joint text.now }
 {
     if is_blank_line(text) {
-        ": the line "
+        texts::THE_LINE
     } else {
         ": "
     }
@@ -124,7 +124,7 @@ fn list_words(kind: FaultKind, text: &[u8]) -> &'static str
     ensures { result.now ≡ bad_line_words kind text.now }
 {
     if is_blank_line(text) {
-        EMPTY
+        texts::LINE_EMPTY
     } else {
         list_fault(kind, text)
     }
@@ -165,18 +165,18 @@ pub fn say_bad_line<'a, K: Sink>(
                 sink,
                 &[
                     by,
-                    Text(": line "),
+                    Text(texts::LINE),
                     line,
-                    Text(" kind "),
+                    Text(texts::KIND),
                     of_kind,
                     joint,
                     what,
                     opening,
                     end,
                     by,
-                    Text(": line "),
+                    Text(texts::LINE),
                     line,
-                    Text(" is: "),
+                    Text(texts::LINE_IS),
                     kept,
                     end,
                 ],
@@ -186,9 +186,9 @@ pub fn say_bad_line<'a, K: Sink>(
             sink,
             &[
                 by,
-                Text(": line "),
+                Text(texts::LINE),
                 line,
-                Text(" kind "),
+                Text(texts::KIND),
                 of_kind,
                 joint,
                 what,

@@ -10,6 +10,7 @@ use crate::faults::fault_words;
 use crate::notes::say_note;
 use crate::pieces::MessagePiece::{Number, Shown, Text};
 use crate::pieces::{Said, say};
+use crate::texts;
 use crate::unread::MOST_OF_NAME;
 use line_text::FaultKind;
 use outside::Sink;
@@ -43,8 +44,8 @@ fn say_too_long<'a, K: Sink>(sink: &mut K, program: &'a str, name: &'a str) -> S
         sink.new }
 {
     let name = Shown(name.as_bytes(), MOST_OF_NAME);
-    let words = ": it has more than 1,048,576 bytes, the most that a file may have\n";
-    say(sink, &[Text(program), Text(": "), name, Text(words)])
+    let words = Text(texts::FILE_TOO_LONG);
+    say(sink, &[Text(program), Text(": "), name, words, Text("\n")])
 }
 
 /// The line, if it is known and is not empty. Takes no memory.
@@ -69,7 +70,7 @@ fn say_what<'a, K: Sink>(sink: &mut K, program: &'a str, bad: &'a BadFile<'a>) -
             Text(program),
             Text(": "),
             Shown(bad.name.as_bytes(), MOST_OF_NAME),
-            Text(", line "),
+            Text(texts::IN_LINE),
             Number(bad.line),
             Text(": "),
             Text(fault_words(bad.file_kind, bad.kind)),
@@ -92,7 +93,15 @@ fn say_rest<'a, K: Sink>(sink: &mut K, program: &'a str, line: u64, text: Option
             let line = Number(line);
             say(
                 sink,
-                &[end, by, Text(": line "), line, Text(" is: "), shown, end],
+                &[
+                    end,
+                    by,
+                    Text(texts::LINE),
+                    line,
+                    Text(texts::LINE_IS),
+                    shown,
+                    end,
+                ],
             )
         }
         None => say(sink, &[end]),

@@ -6,6 +6,7 @@ ghost use Rattle.front_words.specs.Saying.{Says};
 use crate::pieces::MessagePiece::{Number, Text};
 use crate::pieces::{Said, say};
 use crate::showing::say_bytes;
+use crate::texts;
 use outside::Sink;
 use refusals::NodePlace;
 use vset_core::VSet;
@@ -64,7 +65,7 @@ fn say_shore<K: Sink>(sink: &mut K, shore: Option<VSet>) -> Said
     let Some(shore) = shore else {
         return say_bytes(sink, b"");
     };
-    say_bytes(sink, b", shore")?;
+    say(sink, &[Text(texts::SHORE)])?;
     say_numbers(sink, shore)
 }
 
@@ -72,7 +73,7 @@ fn say_shore<K: Sink>(sink: &mut K, shore: Option<VSet>) -> Said
 fn say_known_place<K: Sink>(sink: &mut K, place: NodePlace) -> Said
     ensures { Says K.written K.writes K.faults (known_place_text place) result sink.old sink.new }
 {
-    say_bytes(sink, b"; path ")?;
+    say(sink, &[Text(texts::PATH)])?;
     say_path(sink, place.merged, place.depth)?;
     say_shore(sink, place.shore)
 }

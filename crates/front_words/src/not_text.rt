@@ -2,8 +2,10 @@
 ghost use Rattle.front_words.specs.NotText.{not_text_text, unread_arguments_text};
 ghost use Rattle.front_words.specs.Saying.{Says};
 
+use crate::endings::say_nothing_written;
 use crate::pieces::MessagePiece::{Number, Shown, Text};
 use crate::pieces::{Said, say};
+use crate::texts;
 use arguments::ArgumentFault;
 use outside::Sink;
 
@@ -20,9 +22,9 @@ fn say_not_text<'a, K: Sink>(sink: &mut K, program: &'a str, place: u64, bytes: 
         sink,
         &[
             Text(program),
-            Text(": argument "),
+            Text(texts::ARGUMENT),
             Number(place),
-            Text(" is not UTF-8: "),
+            Text(texts::NOT_UTF8),
             word,
             Text("\n"),
         ],
@@ -36,15 +38,7 @@ pub fn say_unread_arguments<K: Sink>(sink: &mut K, program: &str, refusal: &Argu
         (unread_arguments_text program.now refusal.now) result sink.old sink.new }
 {
     match refusal {
-        ArgumentFault::Memory => {
-            say(
-                sink,
-                &[
-                    Text(program),
-                    Text(": memory ran out; nothing was written\n"),
-                ],
-            )
-        }
+        ArgumentFault::Memory => say_nothing_written(sink, program),
         ArgumentFault::NotText { place, bytes } => say_not_text(
             sink,
             program,

@@ -11,6 +11,7 @@ use crate::pieces::MessagePiece::{Number, Text};
 use crate::pieces::{Said, say};
 use crate::shores::say_shore_note;
 use crate::showing::say_bytes;
+use crate::texts;
 use line_text::FaultKind;
 use outside::Sink;
 use refusals::FileKind;
@@ -23,18 +24,18 @@ fn say_due<K: Sink>(sink: &mut K, file_kind: FileKind, sizes: (u32, u32)) -> Sai
     let order = Number(order as u64);
     let end = Text(")");
     match file_kind {
-        FileKind::Tree => say(sink, &[Text(" (here t mcg "), order, end]),
+        FileKind::Tree => say(sink, &[Text(texts::DUE_TREE), order, end]),
         FileKind::Ears => say(
             sink,
             &[
-                Text(" (here r mcg "),
+                Text(texts::DUE_EARS),
                 order,
                 Text(" "),
                 Number(size as u64),
                 end,
             ],
         ),
-        FileKind::Moves => say(sink, &[Text(" (here m mcg "), order, end]),
+        FileKind::Moves => say(sink, &[Text(texts::DUE_MOVES), order, end]),
         FileKind::Graph | FileKind::Graph6 | FileKind::Picks => say_bytes(
             sink,
             header_note(file_kind).as_bytes(),

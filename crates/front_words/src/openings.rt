@@ -3,6 +3,7 @@ ghost use Rattle.std.specs.Prelude.{◌≡◌};
 ghost use Rattle.std.specs.Option.{option_map};
 ghost use Rattle.front_words.specs.Openings.{beginning_note, beside_note, coding_note, format_note, graph6_note, graph_file_note, misplaced_note, note_or, opening_note, file_kind_note};
 
+use crate::texts;
 use refusals::FileKind;
 
 // The first note, or if there is none the second.
@@ -17,9 +18,9 @@ fn coding_note(text: &[u8]) -> &'static str
     ensures { result.now ≡ coding_note text.now }
 {
     if text.starts_with(b"\xef\xbb\xbf") {
-        " (it begins with a byte order mark; save it without one)"
+        texts::BEGINS_MARKED
     } else if text.starts_with(b"\x1f\x8b") {
-        " (it begins as a file of gzip; zcat reads it)"
+        texts::BEGINS_GZIP
     } else {
         ""
     }
@@ -30,15 +31,15 @@ fn format_note(text: &[u8]) -> &'static str
     ensures { result.now ≡ format_note text.now }
 {
     if text.starts_with(b">>sparse6<<") {
-        " (it begins as sparse6; copyg -g makes graph6 of it)"
+        texts::BEGINS_SPARSE6
     } else if text.starts_with(b":") {
-        " (it begins as sparse6; copyg -g makes graph6 of it)"
+        texts::BEGINS_SPARSE6
     } else if text.starts_with(b">>digraph6<<") {
-        " (it begins as digraph6; only undirected graphs are read)"
+        texts::BEGINS_DIGRAPH6
     } else if text.starts_with(b"&") {
-        " (it begins as digraph6; only undirected graphs are read)"
+        texts::BEGINS_DIGRAPH6
     } else if text.starts_with(b">>planar_code<<") {
-        " (it begins as planar_code; plantri -g writes graph6 instead)"
+        texts::BEGINS_PLANAR
     } else {
         ""
     }
@@ -49,9 +50,9 @@ fn graph_file_note(text: &[u8]) -> &'static str
     ensures { result.now ≡ graph_file_note text.now }
 {
     if text.starts_with(b"p mcg") {
-        " (it begins as a graph file; mcg6 encode makes graph6 of it)"
+        texts::BEGINS_GRAPH
     } else if text.starts_with(b"c ") {
-        " (it begins as a graph file; mcg6 encode makes graph6 of it)"
+        texts::BEGINS_GRAPH
     } else {
         ""
     }
@@ -62,7 +63,7 @@ fn graph6_note(text: &[u8]) -> &'static str
     ensures { result.now ≡ graph6_note text.now }
 {
     if text.starts_with(b">>graph6<<") {
-        " (it begins as graph6; mcg analyse6 and mcg6 read it)"
+        texts::BEGINS_GRAPH6
     } else {
         ""
     }
@@ -74,9 +75,9 @@ fn beside_note(file_kind: FileKind) -> &'static str
 {
     match file_kind {
         FileKind::Graph | FileKind::Graph6 => "",
-        FileKind::Tree => " (this is a graph file; mcg decompose makes a derivation of one)",
-        FileKind::Ears => " (this is a graph file; mcg ears makes an ear list of one)",
-        FileKind::Picks | FileKind::Moves => " (this is a graph file, which comes first)",
+        FileKind::Tree => texts::GRAPH_FOR_TREE,
+        FileKind::Ears => texts::GRAPH_FOR_EARS,
+        FileKind::Picks | FileKind::Moves => texts::GRAPH_FIRST,
     }
 }
 

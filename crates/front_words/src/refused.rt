@@ -7,6 +7,7 @@ use crate::pieces::MessagePiece::{Number, Text};
 use crate::pieces::{Said, say};
 use crate::refused_ears::say_ears;
 use crate::refused_trees::{say_moved, say_tree};
+use crate::texts;
 use crate::uncovered::say_uncovered;
 use outside::Sink;
 use refusals::{Refusal, StuckFault};
@@ -16,15 +17,9 @@ fn stuck_words(fault: StuckFault) -> &'static str
     ensures { result.now ≡ stuck_words fault }
 {
     match fault {
-        StuckFault::NoCut => {
-            "its path does not lead to a cut that it can change (rotate needs a cut below the root)"
-        }
-        StuckFault::Crossing => {
-            "the shore of its cut crosses that of the cut above (rotate another cut)"
-        }
-        StuckFault::NotParts => {
-            "its sets must be nonempty proper subsets of the shore and of its complement"
-        }
+        StuckFault::NoCut => texts::STUCK_NO_CUT,
+        StuckFault::Crossing => texts::STUCK_CROSSING,
+        StuckFault::NotParts => texts::STUCK_NOT_PARTS,
     }
 }
 
@@ -37,9 +32,9 @@ fn say_stuck<K: Sink>(sink: &mut K, program: &str, step: u32, fault: StuckFault)
         sink,
         &[
             Text(program),
-            Text(": move "),
+            Text(texts::MOVE),
             Number(step as u64),
-            Text(" has no result: "),
+            Text(texts::NO_RESULT),
             Text(stuck_words(fault)),
             Text("\n"),
         ],

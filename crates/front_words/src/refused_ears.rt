@@ -5,6 +5,7 @@ ghost use Rattle.front_words.specs.Saying.{Says};
 
 use crate::pieces::MessagePiece::{Number, Text};
 use crate::pieces::{Said, say};
+use crate::texts;
 use outside::Sink;
 use refusals::{EarFault, EarOfTwo, EarPlace};
 
@@ -14,8 +15,8 @@ fn ear_text(ear: Option<EarOfTwo>) -> &'static str
 {
     match ear {
         None => "",
-        Some(EarOfTwo::First) => ", in the first ear",
-        Some(EarOfTwo::Second) => ", in the second ear",
+        Some(EarOfTwo::First) => texts::FIRST_EAR,
+        Some(EarOfTwo::Second) => texts::SECOND_EAR,
     }
 }
 
@@ -25,14 +26,14 @@ fn say_at_step<K: Sink>(sink: &mut K, program: &str, step: u32, place: EarPlace)
         sink.new }
 {
     let by = Text(program);
-    let what = Text(": the list is not an ear decomposition; at step ");
+    let what = Text(texts::EARS_AT);
     let step = Number(step as u64);
     let ear = Text(ear_text(place.ear));
     let end = Text(": ");
     match place.edge {
         None => say(sink, &[by, what, step, ear, end]),
         Some(edge) => {
-            let at = Text(", at edge ");
+            let at = Text(texts::AT_EDGE);
             say(sink, &[by, what, step, ear, at, Number(edge as u64), end])
         }
     }
@@ -43,7 +44,7 @@ fn say_ears_place<K: Sink>(sink: &mut K, program: &str, step: u32, place: EarPla
     ensures { Says K.written K.writes K.faults (ears_place_text program.now step place) result
         sink.old sink.new }
 {
-    let start = ": the list is not an ear decomposition; before its first step: ";
+    let start = texts::EARS_BEFORE;
     if step == 0 {
         say(sink, &[Text(program), Text(start)])
     } else {
@@ -55,56 +56,29 @@ fn say_ears_place<K: Sink>(sink: &mut K, program: &str, step: u32, place: EarPla
 fn say_step_fault<K: Sink>(sink: &mut K, fault: EarFault) -> Said
     ensures { Says K.written K.writes K.faults (step_fault_words fault) result sink.old sink.new }
 {
+    let end = Text("\n");
     match fault {
-        EarFault::NotPath => say(
-            sink,
-            &[
-                Text("the ear is not a path: an edge does not meet the vertex reached, or a "),
-                Text("vertex is repeated (write the first vertex of the ear, then its edges "),
-                Text("in order)\n"),
-            ],
-        ),
-        EarFault::EvenLength => say(
-            sink,
-            &[Text("the ear has an even number of edges (take a path of odd length)\n")],
-        ),
-        EarFault::BadEnds => say(
-            sink,
-            &[
-                Text("the ends of the ear are not two different vertices of the subgraph "),
-                Text("before the step (begin and end at two such vertices)\n"),
-            ],
-        ),
-        EarFault::InnerOnStage => say(
-            sink,
-            &[
-                Text("an inner vertex of the ear is in the subgraph before the step, or on the "),
-                Text("first ear of the step (end the ear there if the vertex is in the "),
-                Text("subgraph; otherwise take another path)\n"),
-            ],
-        ),
-        EarFault::EdgeUsed => say(
-            sink,
-            &[
-                Text("an edge of the ear is in the subgraph before the step, or on the first "),
-                Text("ear of the step (leave it out)\n"),
-            ],
-        ),
+        EarFault::NotPath => say(sink, &[Text(texts::EAR_NOT_PATH), end]),
+        EarFault::EvenLength => say(sink, &[Text(texts::EAR_EVEN), end]),
+        EarFault::BadEnds => say(sink, &[Text(texts::EAR_BAD_ENDS), end]),
+        EarFault::InnerOnStage => say(sink, &[Text(texts::EAR_INNER), end]),
+        EarFault::EdgeUsed => say(sink, &[Text(texts::EAR_USED), end]),
         EarFault::StageNotCovered { edge } => say(
             sink,
             &[
-                Text("once the step is added, edge "),
+                Text(texts::STAGE_EDGE),
                 Number(edge as u64),
-                Text(" is in no perfect matching of the subgraph "),
-                Text("(take other ears, or add a second ear if the step has only one)\n"),
+                Text(texts::STAGE_EDGE_END),
+                end,
             ],
         ),
         EarFault::EndsEarly { edge } => say(
             sink,
             &[
-                Text("the list ends here, but edge "),
+                Text(texts::LEFT_EDGE),
                 Number(edge as u64),
-                Text(" has not been added (add more ears)\n"),
+                Text(texts::LEFT_EDGE_END),
+                end,
             ],
         ),
     }

@@ -6,6 +6,7 @@ ghost use Rattle.front_words.specs.Saying.{Says};
 use crate::node_places::say_place;
 use crate::pieces::MessagePiece::{Number, Text};
 use crate::pieces::{Said, say};
+use crate::texts;
 use outside::Sink;
 use refusals::{NodeFault, NodePlace};
 
@@ -14,19 +15,11 @@ fn node_words(fault: NodeFault) -> &'static str
     ensures { result.now ≡ node_fault_words fault }
 {
     match fault {
-        NodeFault::NotBlocks => {
-            "its shore is not a union of blocks, as it splits a set that a cut above it contracted"
-        }
-        NodeFault::Even => "its shore has an even number of blocks, so its cut is not tight",
-        NodeFault::Trivial => {
-            "one of its two shores has fewer than three blocks, so its cut is trivial"
-        }
-        NodeFault::NotTight => {
-            "its cut is not tight, as it contains at least three edges of the perfect matching shown"
-        }
-        NodeFault::NotLeaf => {
-            "it is a leaf, but the cut of the shore shown is nontrivial and tight there"
-        }
+        NodeFault::NotBlocks => texts::NODE_NOT_BLOCKS,
+        NodeFault::Even => texts::NODE_EVEN,
+        NodeFault::Trivial => texts::NODE_TRIVIAL,
+        NodeFault::NotTight => texts::NODE_NOT_TIGHT,
+        NodeFault::NotLeaf => texts::NODE_NOT_LEAF,
     }
 }
 
@@ -35,10 +28,10 @@ fn node_advice(fault: NodeFault) -> &'static str
     ensures { result.now ≡ node_advice fault }
 {
     match fault {
-        NodeFault::NotBlocks => " (write whole blocks)",
-        NodeFault::Even | NodeFault::NotTight => " (take another cut)",
-        NodeFault::Trivial => " (make it a leaf, or take another cut)",
-        NodeFault::NotLeaf => " (cut further, along this cut for instance)",
+        NodeFault::NotBlocks => texts::WRITE_BLOCKS,
+        NodeFault::Even | NodeFault::NotTight => texts::OTHER_CUT,
+        NodeFault::Trivial => texts::MAKE_LEAF,
+        NodeFault::NotLeaf => texts::CUT_FURTHER,
     }
 }
 
@@ -73,11 +66,11 @@ pub fn say_tree<K: Sink>(
         sink,
         &[
             Text(program),
-            Text(": tree "),
+            Text(texts::TREE),
             Number(tree as u64),
-            Text(" is not a tight cut decomposition; at node "),
+            Text(texts::TREE_AT),
             Number(node as u64),
-            Text(" (in preorder"),
+            Text(texts::PREORDER),
         ],
     )?;
     say_node(sink, place, fault, node_advice(fault))
@@ -100,12 +93,12 @@ pub fn say_moved<K: Sink>(
         sink,
         &[
             Text(program),
-            Text(": move "),
+            Text(texts::MOVE),
             Number(step as u64),
-            Text(" makes a tree that is not a tight cut decomposition; at its node "),
+            Text(texts::MOVED_AT),
             Number(node as u64),
-            Text(" (in preorder"),
+            Text(texts::PREORDER),
         ],
     )?;
-    say_node(sink, place, fault, " (take another move)")
+    say_node(sink, place, fault, texts::OTHER_MOVE)
 }

@@ -8,6 +8,7 @@ ghost use Rattle.front_words.specs.Shores.{highest_named, is_cut, is_cut_word, i
 use crate::pieces::MessagePiece::{Number, Text};
 use crate::pieces::{Said, say};
 use crate::showing::say_bytes;
+use crate::texts;
 use line_text::number;
 use outside::Sink;
 
@@ -133,7 +134,7 @@ fn say_others<K: Sink>(sink: &mut K, line: &[u8], count: u32, next: u32, left: u
 fn say_plain_note<K: Sink>(sink: &mut K) -> Said
     ensures { Says K.written K.writes K.faults plain_shore_note result sink.old sink.new }
 {
-    say_bytes(sink, b" (write the other shore of this cut)")
+    say(sink, &[Text(texts::SHORE_PLAIN)])
 }
 
 // Says the vertices of the other shore and the end of the note.
@@ -157,7 +158,7 @@ fn say_other_shore<K: Sink>(sink: &mut K, line: &[u8], order: u32) -> Said
     if !is_cut(line) || !leaves_some(line, order) {
         return say_plain_note(sink);
     }
-    match say_bytes(sink, b" (write the other shore: cut") {
+    match say(sink, &[Text(texts::SHORE_OTHER)]) {
         Ok(()) => say_shore(sink, line, order),
         Err(failed) => Err(failed),
     }

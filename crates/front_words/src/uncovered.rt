@@ -4,6 +4,7 @@ ghost use Rattle.front_words.specs.Uncovered.{cover_words, uncovered_text};
 
 use crate::pieces::MessagePiece::{Number, Text};
 use crate::pieces::{Said, say};
+use crate::texts;
 use outside::Sink;
 use refusals::CoverFault;
 
@@ -11,32 +12,28 @@ use refusals::CoverFault;
 fn say_cover_fault<K: Sink>(sink: &mut K, fault: CoverFault) -> Said
     ensures { Says K.written K.writes K.faults (cover_words fault) result sink.old sink.new }
 {
+    let end = Text("\n");
     match fault {
-        CoverFault::Small => say(sink, &[Text("it has fewer than two vertices\n")]),
+        CoverFault::Small => say(sink, &[Text(texts::COVER_SMALL), end]),
         CoverFault::Parted { a, b } => say(
             sink,
             &[
-                Text("it is disconnected, as no path leads from vertex "),
+                Text(texts::COVER_PARTED),
                 Number(a as u64),
-                Text(" to vertex "),
+                Text(texts::COVER_PARTED_TO),
                 Number(b as u64),
-                Text(" (take one component)\n"),
+                Text(texts::COVER_PARTED_END),
+                end,
             ],
         ),
-        CoverFault::Unmatched => say(
-            sink,
-            &[
-                Text("it has no perfect matching, as without the vertices shown "),
-                Text("it has more odd components than these are\n"),
-            ],
-        ),
+        CoverFault::Unmatched => say(sink, &[Text(texts::COVER_UNMATCHED), end]),
         CoverFault::Unallowed { edge } => say(
             sink,
             &[
-                Text("edge "),
+                Text(texts::COVER_EDGE),
                 Number(edge as u64),
-                Text(" is in no perfect matching (leave out such edges: "),
-                Text("analyse lists the others as allowed)\n"),
+                Text(texts::COVER_EDGE_END),
+                end,
             ],
         ),
     }
@@ -47,7 +44,7 @@ pub fn say_uncovered<K: Sink>(sink: &mut K, program: &str, fault: CoverFault) ->
     ensures { Says K.written K.writes K.faults (uncovered_text program.now fault) result sink.old
         sink.new }
 {
-    let head = ": the graph is not matching covered: ";
+    let head = texts::NOT_COVERED;
     say(sink, &[Text(program), Text(head)])?;
     say_cover_fault(sink, fault)
 }

@@ -12,6 +12,7 @@ use crate::pieces::MessagePiece::{Shown, Text};
 use crate::pieces::{Said, say};
 use crate::programs::Program;
 use crate::showing::say_bytes;
+use crate::texts;
 use command_table::{Mismatch, Row, why_unmatched};
 use outside::Sink;
 
@@ -57,21 +58,22 @@ fn say_some_reason<'a, K: Sink>(
             sink,
             &[
                 by,
-                Text(": no command "),
+                Text(texts::NO_COMMAND),
                 command,
                 Text("; "),
                 by,
-                Text(" --help lists them\n"),
+                Text(texts::HELP_LISTS),
+                end,
             ],
         ),
-        Mismatch::TooMany => say(sink, &[by, Text(": too many arguments for "), command, end]),
+        Mismatch::TooMany => say(sink, &[by, Text(texts::TOO_MANY), command, end]),
         Mismatch::TooFew(missing) => say(
             sink,
             &[
                 by,
                 Text(": "),
                 command,
-                Text(" needs "),
+                Text(texts::NEEDS),
                 Text(missing.need()),
                 end,
             ],
@@ -166,9 +168,10 @@ fn say_help<'a, K: Sink>(sink: &mut K, program: &'a str, word: &'a str) -> Said
         sink,
         &[
             Text(program),
-            Text(": too many arguments for "),
+            Text(texts::TOO_MANY),
             Shown(word.as_bytes(), MOST_OF_COMMAND),
-            Text("; it takes at most one command\n"),
+            Text(texts::ONE_COMMAND),
+            Text("\n"),
         ],
     )
 }

@@ -6,6 +6,7 @@ ghost use Rattle.front_words.specs.Unread.{dash_note, unread_noted_text, unread_
 use crate::pieces::MessagePiece::{Shown, Text};
 use crate::pieces::{Said, say};
 use crate::reasons::reason_words;
+use crate::texts;
 use outside::{FailureReason, Sink};
 
 /// The most bytes of a name that are shown.
@@ -16,7 +17,7 @@ fn dash_note(name: &str) -> &'static str
     ensures { result.now ≡ dash_note name.now }
 {
     match name {
-        "-" => " (for standard input write /dev/stdin)",
+        "-" => texts::DASH_FILE,
         _ => "",
     }
 }
@@ -38,7 +39,7 @@ pub fn say_unread_noted<'a, K: Sink>(
         sink,
         &[
             Text(program),
-            Text(": cannot read "),
+            Text(texts::CANNOT_READ),
             name,
             Text(": "),
             why,

@@ -8,7 +8,6 @@ use Rattle.mcg6_top.proofs.from_mcg6_reader.LineCuts.{IsClosedText-append}
 use Rattle.mcg6_top.specs.from_mcg6_reader.declared.ending.BadLine.{BadLine}
 use Rattle.mcg6_top.specs.from_mcg6_reader.declared.ending.InputEnding.{InputEnding}
 use Rattle.mcg6_top.specs.from_mcg6_reader.declared.ending.InputEnding.TheVariants as ending
-use Rattle.mcg6_top.specs.from_mcg6_reader.declared.ending.InputEnding.TheVariants as encoding
 use Rattle.mcg6_encoder.specs.from_outside.declared.explain.FailureReason.{FailureReason}
 use Rattle.mcg6_top.specs.Common.{text_of}
 use Rattle.mcg6_top.specs.declared.status.ListRunEnding.{ListRunEnding}
@@ -31,6 +30,7 @@ use Rattle.front_words.specs.from_command_table.Rows.{Row, Word, word_meaning, w
 use Rattle.front_words.specs.from_command_table.Table.{file, form_of, one_of, orders, row_with, rows_lines, rows_notes, skip_file, what}
 unfoldable use Rattle.front_words.specs.from_command_table.Table.{list_rows, list_usage_text}
 use Rattle.front_words.specs.declared.programs.Program.TheVariants.{Mcg6}
+use Rattle.front_words.specs.declared.texts.TheConstants as texts
 use Rattle.mcg6_front_top.specs.Words.{beginning_of, ending_words, file_words, list_words, lost_words, message_words, program, run_words, skipped_words, unwritten_words}
 use Rattle.mcg6_front_top.specs.declared.clues.Clues.{Clues}
 use Rattle.mcg6_front_top.specs.declared.ending.ListMessage.{ListMessage}
@@ -53,39 +53,39 @@ one-of false x y one two = two
 -- a line, and then the text of the line at fault, if there is one to show
 shown-line : (name : List ℕ) (line : ℕ) (text : Option (List ℕ)) → Ends (codes "\n" ++ line_shown name line text)
 shown-line name line None = ([], refl)
-shown-line name line (Some text) = behind (codes "\n") _ (behind name _ (behind (codes ": line ") _ (behind (decimal line) _ (behind (codes " is: ") _ (behind (shown 60 text) _ feed)))))
+shown-line name line (Some text) = behind (codes "\n") _ (behind name _ (behind texts.LINE.now _ (behind (decimal line) _ (behind texts.LINE_IS.now _ (behind (shown 60 text) _ feed)))))
 
 unread-ends : (name file : List ℕ) (reason : Option FailureReason) (note : List ℕ) → Ends (unread_noted_text name file reason note)
-unread-ends name file reason note = behind name _ (behind (codes ": cannot read ") _ (behind (shown 4096 file) _ (behind (codes ": ") _ (behind (reason_words reason) _ (behind note _ feed)))))
+unread-ends name file reason note = behind name _ (behind texts.CANNOT_READ.now _ (behind (shown 4096 file) _ (behind (codes ": ") _ (behind (reason_words reason) _ (behind note _ feed)))))
 
 unread-list-ends : (name : List ℕ) (file : Option (List ℕ)) (reason : Option FailureReason) → Ends (unread_list_text name file reason)
-unread-list-ends name None reason = behind name _ (behind (codes ": cannot read standard input: ") _ (behind (reason_words reason) _ feed))
+unread-list-ends name None reason = behind name _ (behind texts.CANNOT_READ_INPUT.now _ (behind (reason_words reason) _ feed))
 unread-list-ends name (Some file) reason = unread-ends name file reason (list_dash_note file)
 
 bad-line-ends : (name : List ℕ) (number : ℕ) (kind : FaultKind) (text : List ℕ) → Ends (bad_line_text name number kind text)
 bad-line-ends name number kind text =
-    behind name _ (behind (codes ": line ") _ (behind (decimal number) _ (behind (codes " kind ") _ (behind (decimal (kind_number kind)) _
+    behind name _ (behind texts.LINE.now _ (behind (decimal number) _ (behind texts.KIND.now _ (behind (decimal (kind_number kind)) _
     (behind (list_joint text) _ (behind (bad_line_words kind text) _ (behind (opening_note text) _ (shown-line name number (line_kept text)))))))))
 
 outside-ends : (empty : Option ℕ) (name file text : List ℕ) → Ends text → Ends (unless_empty empty name file text)
 outside-ends None name file text ends = ends
 outside-ends (Some line) name file text ends =
-    behind name _ (behind (codes ": ") _ (behind (shown 4096 file) _ (behind (codes ", line ") _ (behind (decimal line) _ (behind (codes " ") _ (behind empty_words _ feed))))))
+    behind name _ (behind (codes ": ") _ (behind (shown 4096 file) _ (behind texts.IN_LINE.now _ (behind (decimal line) _ (behind (codes " ") _ (behind empty_words _ feed))))))
 
 bad-file-ends : (name : List ℕ) (bad : BadFileSeen) → Ends (bad_file_text name bad)
 bad-file-ends name bad =
     one-of (bad.line == 0) (too_long_text name bad.name) (outside_text name bad)
-    (behind name _ (behind (codes ": ") _ (behind (shown 4096 bad.name) _ (codes ": it has more than 1,048,576 bytes, the most that a file may have", refl))))
+    (behind name _ (behind (codes ": ") _ (behind (shown 4096 bad.name) _ (behind texts.FILE_TOO_LONG.now _ feed))))
     (outside-ends (empty_line_in bad.file_kind bad.beginning) name bad.name (fault_text name bad)
     (behind (what_text name bad) _ (behind (file_note bad.file_kind bad.kind bad.beginning bad.sizes (some_line bad.text)) _ (shown-line name bad.line (some_line bad.text)))))
 
 -- words that match no row
 reason-ends : (name command : List ℕ) (reason : Mismatch) → Ends (some_reason_text name command reason)
 reason-ends name command Unknown =
-    behind name _ (behind (codes ": no command ") _ (behind (shown 60 command) _ (behind (codes "; ") _ (behind name _ (codes " --help lists them", refl)))))
-reason-ends name command TooMany = behind name _ (behind (codes ": too many arguments for ") _ (behind (shown 60 command) _ feed))
+    behind name _ (behind texts.NO_COMMAND.now _ (behind (shown 60 command) _ (behind (codes "; ") _ (behind name _ (behind texts.HELP_LISTS.now _ feed)))))
+reason-ends name command TooMany = behind name _ (behind texts.TOO_MANY.now _ (behind (shown 60 command) _ feed))
 reason-ends name command (TooFew missing) =
-    behind name _ (behind (codes ": ") _ (behind (shown 60 command) _ (behind (codes " needs ") _ (behind (word_need missing) _ feed))))
+    behind name _ (behind (codes ": ") _ (behind (shown 60 command) _ (behind texts.NEEDS.now _ (behind (word_need missing) _ feed))))
 reason-ends name command (Wrong wanted) = behind name _ (behind (codes ": ") _ (behind (word_meaning wanted) _ feed))
 
 mismatch-closed : (name command : List ℕ) (reason : Option Mismatch) → IsClosedText (mismatch_text name command reason)
@@ -119,12 +119,18 @@ rows-end = (
       (
         row-ends (codes "matching") [] skip_file (codes "a line for each graph: a maximum matching, and D, A and C"),
         (
-          row-ends (codes "graph") [] file (codes "the file of one graph, for mcg"),
+          row-ends (codes "cuts") [] skip_file (codes "a line for each candidate for a tight cut"),
           (
-            row-ends (codes "select") (what ∷ []) skip_file (codes "the lines whose graph has a property"),
+            row-ends (codes "ears") [] skip_file (codes "a line for each graph: an ear decomposition"),
             (
-              row-ends (codes "encode") file [] (codes "the line of a file for mcg; parallel edges count once"),
-              tt,
+              row-ends (codes "graph") [] file (codes "the file of one graph, for mcg"),
+              (
+                row-ends (codes "select") (what ∷ []) skip_file (codes "the lines whose graph has a property"),
+                (
+                  row-ends (codes "encode") file [] (codes "the line of a file for mcg; parallel edges count once"),
+                  tt,
+                ),
+              ),
             ),
           ),
         ),
@@ -147,14 +153,14 @@ meant-closed words (Some command) =
 
 unless-closed : (word : Option (List ℕ)) (name text : List ℕ) → IsClosedText text → IsClosedText (unless_help word name text)
 unless-closed None name text closed = closed
-unless-closed (Some word) name text closed = inr (behind name _ (behind (codes ": too many arguments for ") _ (behind (shown 60 word) _ (codes "; it takes at most one command", refl))))
+unless-closed (Some word) name text closed = inr (behind name _ (behind texts.TOO_MANY.now _ (behind (shown 60 word) _ (behind texts.ONE_COMMAND.now _ feed))))
 
 unmatched-closed : (words : List (List ℕ)) → IsClosedText (unmatched_text Mcg6 words)
 unmatched-closed words = unless-closed (help_beyond words) (name_of Mcg6) (meant_text Mcg6 words (meant words)) (meant-closed words (meant words))
 
 -- what is said of an ending
 lost-ends : Ends lost_words
-lost-ends = (codes "mcg6: the output could not be written whole", refl)
+lost-ends = behind program _ (behind texts.LOST.now _ feed)
 
 unwritten-closed : (is_abandoned : Bool) → IsClosedText (unwritten_words is_abandoned)
 unwritten-closed true = inl refl
@@ -165,11 +171,11 @@ list-closed name ending.Done clues = inl refl
 list-closed name (ending.Bad found) clues = inr (bad-line-ends program found.number found.kind found.text.items)
 list-closed name ending.ReadFault clues = inr (unread-list-ends program name clues.reason)
 list-closed name ending.WriteFault clues = unwritten-closed clues.is_abandoned
-list-closed name ending.Memory clues = inr (codes "mcg6: memory ran out; what was written is of the first lines alone", refl)
+list-closed name ending.Memory clues = inr (behind program _ (behind texts.FIRST_LINES.now _ feed))
 
 file-closed : (name : List ℕ) (ended : InputEnding) (clues : Clues) → IsClosedText (file_words name ended clues)
-file-closed name encoding.Done clues = inl refl
-file-closed name (encoding.Bad found) clues = inr (bad-file-ends program (record {
+file-closed name ending.Done clues = inl refl
+file-closed name (ending.Bad found) clues = inr (bad-file-ends program (record {
   name = name;
   file_kind = Graph;
   line = found.number;
@@ -178,9 +184,9 @@ file-closed name (encoding.Bad found) clues = inr (bad-file-ends program (record
   sizes = None;
   text = Some found.text.items;
 }))
-file-closed name encoding.ReadFault clues = inr (unread-ends program name clues.reason (dash_note name))
-file-closed name encoding.WriteFault clues = unwritten-closed clues.is_abandoned
-file-closed name encoding.Memory clues = inr (codes "mcg6: memory ran out; nothing was written", refl)
+file-closed name ending.ReadFault clues = inr (unread-ends program name clues.reason (dash_note name))
+file-closed name ending.WriteFault clues = unwritten-closed clues.is_abandoned
+file-closed name ending.Memory clues = inr (behind program _ (behind texts.NOTHING_WRITTEN.now _ feed))
 
 skipped-closed : (skipped : List BadLine) → IsClosedText (skipped_words skipped)
 skipped-closed [] = inl refl

@@ -12,7 +12,7 @@ use Rattle.mcg6_top.specs.from_decomposer.Common.{order_named}
 use Rattle.mcg6_top.specs.from_decomposer.declared.orders.NamedOrder.TheVariants.{First}
 use Rattle.mcg6_top.specs.from_mcg6_lines.declared.query.Property.TheVariants.{Bricks, Braces}
 use Rattle.mcg6_top.specs.from_mcg6_lines.declared.query.Query.{Query}
-use Rattle.mcg6_top.specs.from_mcg6_lines.declared.query.Query.TheVariants.{Kinds, Leaves, Elementary, Matching, Graph, Select}
+use Rattle.mcg6_top.specs.from_mcg6_lines.declared.query.Query.TheVariants.{Kinds, Leaves, Elementary, Matching, Cuts, Ears, Graph, Select}
 use Rattle.mcg6_top.specs.Common.{ListCommand, asks_skip, command_if, command_of, command_or, list_command_of, command_with, counted_property, encode_of, leaves_named, may_skip, pair_command, property_named, query_named, select_named}
 use Rattle.front_words.specs.from_command_table.Rows.{fit_optional, is_counted, matches_a_row, is_one_of}
 use Rattle.front_words.specs.from_command_table.Table.{counted_properties, file, list_rows, orders, properties, skip_file}
@@ -104,20 +104,22 @@ graph_fits (word ∷ name ∷ []) = refl
 graph_fits (word ∷ name ∷ third ∷ words) = refl
 
 -- the query that a word names, and the words after it
-named_if : (kinds leaves elementary matching graph : Bool) (words : List (List ℕ)) →
-    is_some (command_if (if kinds then Some Kinds else (if leaves then Some (Leaves First) else (if elementary then Some Elementary else (if matching then Some Matching else (if graph then Some Graph else None))))) words)
-    ≡ (if kinds then fit_optional skip_file words else (if leaves then fit_optional skip_file words else (if elementary then fit_optional skip_file words else (if matching then fit_optional skip_file words else (if graph then fit_optional file words else false)))))
-named_if true leaves elementary matching graph words = with_fits Kinds refl words
-named_if false true elementary matching graph words = with_fits (Leaves First) refl words
-named_if false false true matching graph words = with_fits Elementary refl words
-named_if false false false true graph words = with_fits Matching refl words
-named_if false false false false true words = graph_fits words
-named_if false false false false false words = refl
+named_if : (kinds leaves elementary matching cuts ears graph : Bool) (words : List (List ℕ)) →
+    is_some (command_if (if kinds then Some Kinds else (if leaves then Some (Leaves First) else (if elementary then Some Elementary else (if matching then Some Matching else (if cuts then Some Cuts else (if ears then Some Ears else (if graph then Some Graph else None))))))) words)
+    ≡ (if kinds then fit_optional skip_file words else (if leaves then fit_optional skip_file words else (if elementary then fit_optional skip_file words else (if matching then fit_optional skip_file words else (if cuts then fit_optional skip_file words else (if ears then fit_optional skip_file words else (if graph then fit_optional file words else false)))))))
+named_if true leaves elementary matching cuts ears graph words = with_fits Kinds refl words
+named_if false true elementary matching cuts ears graph words = with_fits (Leaves First) refl words
+named_if false false true matching cuts ears graph words = with_fits Elementary refl words
+named_if false false false true cuts ears graph words = with_fits Matching refl words
+named_if false false false false true ears graph words = with_fits Cuts refl words
+named_if false false false false false true graph words = with_fits Ears refl words
+named_if false false false false false false true words = graph_fits words
+named_if false false false false false false false words = refl
 
 named_fits : (word : List ℕ) (words : List (List ℕ)) → is_some (command_if (query_named word) words)
-    ≡ (if bytes_eq word (codes "kinds") then fit_optional skip_file words else (if bytes_eq word (codes "leaves") then fit_optional skip_file words else (if bytes_eq word (codes "elementary") then fit_optional skip_file words else (if bytes_eq word (codes "matching") then fit_optional skip_file words else (if bytes_eq word (codes "graph") then fit_optional file words else false)))))
+    ≡ (if bytes_eq word (codes "kinds") then fit_optional skip_file words else (if bytes_eq word (codes "leaves") then fit_optional skip_file words else (if bytes_eq word (codes "elementary") then fit_optional skip_file words else (if bytes_eq word (codes "matching") then fit_optional skip_file words else (if bytes_eq word (codes "cuts") then fit_optional skip_file words else (if bytes_eq word (codes "ears") then fit_optional skip_file words else (if bytes_eq word (codes "graph") then fit_optional file words else false)))))))
 named_fits word words =
-    named_if (bytes_eq word (codes "kinds")) (bytes_eq word (codes "leaves")) (bytes_eq word (codes "elementary")) (bytes_eq word (codes "matching")) (bytes_eq word (codes "graph")) words
+    named_if (bytes_eq word (codes "kinds")) (bytes_eq word (codes "leaves")) (bytes_eq word (codes "elementary")) (bytes_eq word (codes "matching")) (bytes_eq word (codes "cuts")) (bytes_eq word (codes "ears")) (bytes_eq word (codes "graph")) words
 
 -- a query that two words name, and the words after them; or the second is one of those
 second_if : (o : Option Query) → ((query : Query) → o ≡ Some query → may_skip query ≡ true) → (word second : List ℕ) (words : List (List ℕ)) →
@@ -170,40 +172,48 @@ if-and true false = refl
 if-and false true = refl
 if-and false false = refl
 
--- the rows of a first word: k, l, m, t, g, s and e are the tests of it for the seven commands, of which
+-- the rows of a first word: k, l, m, t, u, r, g, s and e are the tests of it for the nine commands, of which
 -- no two hold; `order` and `has` are those of the second word, and the others say which words may
 -- come after them
-rows_of : (k l m t g s e order has more next name rest : Bool) →
-    (k ≡ true → (l ≡ false) × (m ≡ false) × (t ≡ false) × (g ≡ false) × (s ≡ false) × (e ≡ false)) →
-    (l ≡ true → (m ≡ false) × (t ≡ false) × (g ≡ false) × (s ≡ false) × (e ≡ false)) →
-    (m ≡ true → (t ≡ false) × (g ≡ false) × (s ≡ false) × (e ≡ false)) →
-    (t ≡ true → (g ≡ false) × (s ≡ false) × (e ≡ false)) →
+rows_of : (k l m t u r g s e order has more next name rest : Bool) →
+    (k ≡ true → (l ≡ false) × (m ≡ false) × (t ≡ false) × (u ≡ false) × (r ≡ false) × (g ≡ false) × (s ≡ false) × (e ≡ false)) →
+    (l ≡ true → (m ≡ false) × (t ≡ false) × (u ≡ false) × (r ≡ false) × (g ≡ false) × (s ≡ false) × (e ≡ false)) →
+    (m ≡ true → (t ≡ false) × (u ≡ false) × (r ≡ false) × (g ≡ false) × (s ≡ false) × (e ≡ false)) →
+    (t ≡ true → (u ≡ false) × (r ≡ false) × (g ≡ false) × (s ≡ false) × (e ≡ false)) →
+    (u ≡ true → (r ≡ false) × (g ≡ false) × (s ≡ false) × (e ≡ false)) →
+    (r ≡ true → (g ≡ false) × (s ≡ false) × (e ≡ false)) →
     (g ≡ true → (s ≡ false) × (e ≡ false)) →
     (s ≡ true → e ≡ false) →
-    ((if l then (if order then more else (if k then next else (if l then next else (if m then next else (if t then next else (if g then name else false))))))
-    else (if s then (if has then more else (if k then next else (if l then next else (if m then next else (if t then next else (if g then name else false))))))
-    else (if k then next else (if l then next else (if m then next else (if t then next else (if g then name else false))))))) || (if e then rest else false))
-    ≡ ((next && k) || (((if order then more else next) && l) || ((next && m) || ((next && t) || ((name && g) || (((more && has) && s) || (((rest && true) && e) || false)))))))
-rows_of true l m t g s e order has more next name rest a b c d f h =
+    ((if l then (if order then more else (if k then next else (if l then next else (if m then next else (if t then next else (if u then next else (if r then next else (if g then name else false))))))))
+    else (if s then (if has then more else (if k then next else (if l then next else (if m then next else (if t then next else (if u then next else (if r then next else (if g then name else false))))))))
+    else (if k then next else (if l then next else (if m then next else (if t then next else (if u then next else (if r then next else (if g then name else false))))))))) || (if e then rest else false))
+    ≡ ((next && k) || (((if order then more else next) && l) || ((next && m) || ((next && t) || ((next && u) || ((next && r) || ((name && g) || (((more && has) && s) || (((rest && true) && e) || false)))))))))
+rows_of true l m t u r g s e order has more next name rest a b c d f h i j =
     let none = a refl in
-    rw (none.0, none.1, none.2, none.3, none.4, none.5, and-true next, and-false (if order then more else next), and-false next, and-false name, and-false (more && has), and-false (rest && true)) refl
-rows_of false true m t g s e order has more next name rest a b c d f h =
+    rw (none.0, none.1, none.2, none.3, none.4, none.5, none.6, none.7, and-true next, and-false (if order then more else next), and-false next, and-false name, and-false (more && has), and-false (rest && true)) refl
+rows_of false true m t u r g s e order has more next name rest a b c d f h i j =
     let none = b refl in
-    rw (none.0, none.1, none.2, none.3, none.4, and-false next, and-true (if order then more else next), and-false name, and-false (more && has), and-false (rest && true)) refl
-rows_of false false true t g s e order has more next name rest a b c d f h =
+    rw (none.0, none.1, none.2, none.3, none.4, none.5, none.6, and-false next, and-true (if order then more else next), and-false name, and-false (more && has), and-false (rest && true)) refl
+rows_of false false true t u r g s e order has more next name rest a b c d f h i j =
     let none = c refl in
-    rw (none.0, none.1, none.2, none.3, and-false next, and-false (if order then more else next), and-true next, and-false name, and-false (more && has), and-false (rest && true)) refl
-rows_of false false false true g s e order has more next name rest a b c d f h =
+    rw (none.0, none.1, none.2, none.3, none.4, none.5, and-false next, and-false (if order then more else next), and-true next, and-false name, and-false (more && has), and-false (rest && true)) refl
+rows_of false false false true u r g s e order has more next name rest a b c d f h i j =
     let none = d refl in
-    rw (none.0, none.1, none.2, and-false next, and-false (if order then more else next), and-true next, and-false name, and-false (more && has), and-false (rest && true)) refl
-rows_of false false false false true s e order has more next name rest a b c d f h =
+    rw (none.0, none.1, none.2, none.3, none.4, and-false next, and-false (if order then more else next), and-true next, and-false name, and-false (more && has), and-false (rest && true)) refl
+rows_of false false false false true r g s e order has more next name rest a b c d f h i j =
     let none = f refl in
+    rw (none.0, none.1, none.2, none.3, and-false next, and-false (if order then more else next), and-true next, and-false name, and-false (more && has), and-false (rest && true)) refl
+rows_of false false false false false true g s e order has more next name rest a b c d f h i j =
+    let none = h refl in
+    rw (none.0, none.1, none.2, and-false next, and-false (if order then more else next), and-true next, and-false name, and-false (more && has), and-false (rest && true)) refl
+rows_of false false false false false false true s e order has more next name rest a b c d f h i j =
+    let none = i refl in
     rw (none.0, none.1, and-false next, and-false (if order then more else next), and-true name, and-false (more && has), and-false (rest && true)) refl
-rows_of false false false false false true e order has more next name rest a b c d f h =
-    rw (h refl, and-false next, and-false (if order then more else next), and-false name, if-and has more, and-true (more && has), and-false (rest && true)) refl
-rows_of false false false false false false true order has more next name rest a b c d f h =
+rows_of false false false false false false false true e order has more next name rest a b c d f h i j =
+    rw (j refl, and-false next, and-false (if order then more else next), and-false name, if-and has more, and-true (more && has), and-false (rest && true)) refl
+rows_of false false false false false false false false true order has more next name rest a b c d f h i j =
     rw (and-false next, and-false (if order then more else next), and-false name, and-false (more && has), and-true (rest && true), and-true rest) (sym (or-false rest))
-rows_of false false false false false false false order has more next name rest a b c d f h =
+rows_of false false false false false false false false false order has more next name rest a b c d f h i j =
     rw (and-false next, and-false (if order then more else next), and-false name, and-false (more && has), and-false (rest && true)) refl
 
 -- no word is two commands
@@ -211,29 +221,33 @@ apart : (word a b : List ℕ) → bytes_eq word a ≡ true → bytes_eq word b �
 apart word a b is = ap (λ w. bytes_eq w b) ((bytes_eq-Decides word a).0 is)
 
 -- a command alone
-one_word : (k l m t g : Bool) → ((if k then true else (if l then true else (if m then true else (if t then true else (if g then true else false))))) || false) ≡ (k || (l || (m || (t || (g || false)))))
-one_word true l m t g = refl
-one_word false true m t g = refl
-one_word false false true t g = refl
-one_word false false false true g = refl
-one_word false false false false true = refl
-one_word false false false false false = refl
+one_word : (k l m t u r g : Bool) → ((if k then true else (if l then true else (if m then true else (if t then true else (if u then true else (if r then true else (if g then true else false))))))) || false) ≡ (k || (l || (m || (t || (u || (r || (g || false)))))))
+one_word true l m t u r g = refl
+one_word false true m t u r g = refl
+one_word false false true t u r g = refl
+one_word false false false true u r g = refl
+one_word false false false false true r g = refl
+one_word false false false false false true g = refl
+one_word false false false false false false true = refl
+one_word false false false false false false false = refl
 
 listed_one : (words : List (List ℕ)) → (is_some (list_command_of words) || is_some (encode_of words)) ≡ matches_a_row list_rows words
 unfolding list_rows
 listed_one [] = refl
 listed_one (w ∷ []) =
     rw (named_fits w [])
-    (one_word (bytes_eq w (codes "kinds")) (bytes_eq w (codes "leaves")) (bytes_eq w (codes "elementary")) (bytes_eq w (codes "matching")) (bytes_eq w (codes "graph")))
+    (one_word (bytes_eq w (codes "kinds")) (bytes_eq w (codes "leaves")) (bytes_eq w (codes "elementary")) (bytes_eq w (codes "matching")) (bytes_eq w (codes "cuts")) (bytes_eq w (codes "ears")) (bytes_eq w (codes "graph")))
 listed_one (w ∷ s ∷ words) =
     rw (second_fits (bytes_eq w (codes "leaves")) (bytes_eq w (codes "select")) w s words, named_fits w (s ∷ words), encode_fits w s words)
-    (rows_of (bytes_eq w (codes "kinds")) (bytes_eq w (codes "leaves")) (bytes_eq w (codes "elementary")) (bytes_eq w (codes "matching")) (bytes_eq w (codes "graph")) (bytes_eq w (codes "select")) (bytes_eq w (codes "encode"))
+    (rows_of (bytes_eq w (codes "kinds")) (bytes_eq w (codes "leaves")) (bytes_eq w (codes "elementary")) (bytes_eq w (codes "matching")) (bytes_eq w (codes "cuts")) (bytes_eq w (codes "ears")) (bytes_eq w (codes "graph")) (bytes_eq w (codes "select")) (bytes_eq w (codes "encode"))
     (is_one_of orders [] s) (is_one_of properties counted_properties s)
     (fit_optional skip_file words) (fit_optional skip_file (s ∷ words)) (fit_optional file (s ∷ words)) (fit_optional [] words)
     (λ is. (
       apart w (codes "kinds") (codes "leaves") is,
       apart w (codes "kinds") (codes "elementary") is,
       apart w (codes "kinds") (codes "matching") is,
+      apart w (codes "kinds") (codes "cuts") is,
+      apart w (codes "kinds") (codes "ears") is,
       apart w (codes "kinds") (codes "graph") is,
       apart w (codes "kinds") (codes "select") is,
       apart w (codes "kinds") (codes "encode") is,
@@ -241,12 +255,29 @@ listed_one (w ∷ s ∷ words) =
     (λ is. (
       apart w (codes "leaves") (codes "elementary") is,
       apart w (codes "leaves") (codes "matching") is,
+      apart w (codes "leaves") (codes "cuts") is,
+      apart w (codes "leaves") (codes "ears") is,
       apart w (codes "leaves") (codes "graph") is,
       apart w (codes "leaves") (codes "select") is,
       apart w (codes "leaves") (codes "encode") is,
     ))
-    (λ is. (apart w (codes "elementary") (codes "matching") is, apart w (codes "elementary") (codes "graph") is, apart w (codes "elementary") (codes "select") is, apart w (codes "elementary") (codes "encode") is))
-    (λ is. (apart w (codes "matching") (codes "graph") is, apart w (codes "matching") (codes "select") is, apart w (codes "matching") (codes "encode") is))
+    (λ is. (
+      apart w (codes "elementary") (codes "matching") is,
+      apart w (codes "elementary") (codes "cuts") is,
+      apart w (codes "elementary") (codes "ears") is,
+      apart w (codes "elementary") (codes "graph") is,
+      apart w (codes "elementary") (codes "select") is,
+      apart w (codes "elementary") (codes "encode") is,
+    ))
+    (λ is. (
+      apart w (codes "matching") (codes "cuts") is,
+      apart w (codes "matching") (codes "ears") is,
+      apart w (codes "matching") (codes "graph") is,
+      apart w (codes "matching") (codes "select") is,
+      apart w (codes "matching") (codes "encode") is,
+    ))
+    (λ is. (apart w (codes "cuts") (codes "ears") is, apart w (codes "cuts") (codes "graph") is, apart w (codes "cuts") (codes "select") is, apart w (codes "cuts") (codes "encode") is))
+    (λ is. (apart w (codes "ears") (codes "graph") is, apart w (codes "ears") (codes "select") is, apart w (codes "ears") (codes "encode") is))
     (λ is. (apart w (codes "graph") (codes "select") is, apart w (codes "graph") (codes "encode") is))
     (λ is. apart w (codes "select") (codes "encode") is))
 

@@ -12,6 +12,7 @@ use Rattle.mcg6_front_top.specs.declared.clues.Clues.{Clues}
 use Rattle.mcg6_front_top.specs.declared.ending.ListMessage.{ListMessage}
 use Rattle.mcg6_front_top.specs.declared.ending.ListMessage.TheVariants as message
 use Rattle.front_words.specs.from_refusals.declared.file_kind.FileKind.TheVariants.{Graph}
+use Rattle.front_words.specs.Endings.{first_lines_text, lost_text, nothing_written_text}
 use Rattle.front_words.specs.ListMessages.{bad_line_text, unread_list_text}
 use Rattle.front_words.specs.Messages.{bad_file_text, unread_text}
 use Rattle.front_words.specs.Unmatched.{unmatched_text}
@@ -23,15 +24,11 @@ program = codes "mcg6"
 
 -- if the output could not be written whole
 abbrev pub lost_words : List ℕ
-lost_words = codes "mcg6: the output could not be written whole\n"
+lost_words = lost_text program
 
 -- the same; nothing if nobody reads it any more
 abbrev pub unwritten_words : (is_abandoned : Bool) → List ℕ
 unwritten_words is_abandoned = if is_abandoned then [] else lost_words
-
--- if memory ran out
-abbrev pub memory_words : List ℕ
-memory_words = codes "mcg6: memory ran out; what was written is of the first lines alone\n"
 
 -- what is said of a list that ended so, in the file of that name, if it has one; nothing if each
 -- line was answered
@@ -40,11 +37,7 @@ list_words name Done clues = []
 list_words name (Bad found) clues = bad_line_text program found.number found.kind found.text.items
 list_words name ReadFault clues = unread_list_text program name clues.reason
 list_words name WriteFault clues = unwritten_words clues.is_abandoned
-list_words name Memory clues = memory_words
-
--- where memory ran out before anything was written
-abbrev pub nothing_words : List ℕ
-nothing_words = codes "mcg6: memory ran out; nothing was written\n"
+list_words name Memory clues = first_lines_text program
 
 -- the beginning of a file whose line with that number has this text, if it is the first line
 abbrev pub beginning_of : (number : ℕ) (text : List ℕ) → Option (List ℕ)
@@ -70,7 +63,7 @@ file_words name encoding.Done clues = []
 file_words name (encoding.Bad found) clues = bad_graph_words name found
 file_words name encoding.ReadFault clues = unread_text program name clues.reason
 file_words name encoding.WriteFault clues = unwritten_words clues.is_abandoned
-file_words name encoding.Memory clues = nothing_words
+file_words name encoding.Memory clues = nothing_written_text program
 
 -- what is said of bad lines that were skipped: of each what is said of a bad line, in order
 abbrev pub skipped_words : List BadLine → List ℕ

@@ -3,14 +3,14 @@ ghost use Rattle.std.specs.Prelude.{◌≡◌, ◌++◌, []};
 ghost use Rattle.std.specs.Option.{option_map};
 ghost use Rattle.front_words.specs.Saying.{Says};
 ghost use Rattle.mcg6_top.specs.Common.{status_in, text_of};
-ghost use Rattle.mcg6_front_top.specs.Words.{bad_graph_words, beginning_of, file_words, list_words, lost_words, memory_words, nothing_words, skipped_words, unwritten_words, run_words};
+ghost use Rattle.mcg6_front_top.specs.Words.{bad_graph_words, beginning_of, file_words, list_words, lost_words, skipped_words, unwritten_words, run_words};
 
 use crate::clues::Clues;
 use crate::skipping::say_skipped;
 use front_words::refusals::FileKind;
 use front_words::{
-    BadFile, Program, Said, say_bad_file, say_bad_line, say_bytes, say_unmatched, say_unread,
-    say_unread_list,
+    BadFile, Program, Said, say_bad_file, say_bad_line, say_first_lines, say_lost_output,
+    say_nothing_written, say_unmatched, say_unread, say_unread_list,
 };
 use mcg6_encoder::mcg6_reader::{BadLine, InputEnding};
 use mcg6_encoder::outside::{Sink, SinkFailed};
@@ -86,7 +86,7 @@ fn say_file_ending<E: Sink>(errors: &mut E, name: &str, ending: &InputEnding, cl
         InputEnding::Bad { found } => say_bad_graph(errors, name, found),
         InputEnding::ReadFault => say_unread(errors, PROGRAM, name, clues.reason),
         InputEnding::WriteFault => say_unwritten(errors, clues.is_abandoned),
-        InputEnding::Memory => say_nothing_written(errors),
+        InputEnding::Memory => say_nothing_written(errors, PROGRAM),
     }
 }
 
@@ -115,13 +115,6 @@ fn say_bad_graph<E: Sink>(errors: &mut E, name: &str, found: &BadLine) -> Said
     say_bad_file(errors, PROGRAM, &bad)
 }
 
-// Says that memory ran out before anything was written.
-fn say_nothing_written<E: Sink>(errors: &mut E) -> Said
-    ensures { Says E.written E.writes E.faults nothing_words result errors.old errors.new }
-{
-    say_bytes(errors, b"mcg6: memory ran out; nothing was written\n")
-}
-
 // Says how a list ended, with the name of its file, if it has one; nothing where each line was
 // told.
 fn say_list_ending<E: Sink>(
@@ -140,7 +133,7 @@ fn say_list_ending<E: Sink>(
         }
         InputEnding::ReadFault => say_unread_list(errors, PROGRAM, name, clues.reason),
         InputEnding::WriteFault => say_unwritten(errors, clues.is_abandoned),
-        InputEnding::Memory => say_out_of_memory(errors),
+        InputEnding::Memory => say_first_lines(errors, PROGRAM),
     }
 }
 
@@ -148,7 +141,7 @@ fn say_list_ending<E: Sink>(
 pub fn say_lost<E: Sink>(errors: &mut E) -> Said
     ensures { Says E.written E.writes E.faults lost_words result errors.old errors.new }
 {
-    say_bytes(errors, b"mcg6: the output could not be written whole\n")
+    say_lost_output(errors, PROGRAM)
 }
 
 // Says that the output could not be written, unless nobody reads it any more.
@@ -160,14 +153,4 @@ fn say_unwritten<E: Sink>(errors: &mut E, is_abandoned: bool) -> Said
     } else {
         say_lost(errors)
     }
-}
-
-// Says that memory ran out.
-fn say_out_of_memory<E: Sink>(errors: &mut E) -> Said
-    ensures { Says E.written E.writes E.faults memory_words result errors.old errors.new }
-{
-    say_bytes(
-        errors,
-        b"mcg6: memory ran out; what was written is of the first lines alone\n",
-    )
 }

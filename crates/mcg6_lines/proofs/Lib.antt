@@ -12,6 +12,8 @@ pub mod Counts
 pub mod MissedVertices
 pub mod OneStanding
 pub mod MatedSets
+pub mod CutTexts
+pub mod EarTexts
 pub mod AlikeMatchings
 pub mod OneAnswer
 pub mod DecimalSteps

@@ -1,7 +1,7 @@
 -- What is told of a line is one, unless the query is free; and then two outputs have in common what
 -- the graph determines. The line stands for one graph, of which each query asks one thing. The
 -- leaves are those of one tree, since the order picks one, with one list of kinds.
-use Rattle.std.proofs.Common.{◌≡◌, ◌∙◌, ℕ, List, Result, Ok, Err, sym, subst, ap, arith, IsFalse}
+use Rattle.std.proofs.Common.{◌≡◌, ◌∙◌, inl, inr, ℕ, List, Result, Ok, Err, sym, subst, ap, arith, IsFalse}
 use Rattle.mcg6_lines.proofs.OneTree.{kinds-once, named-once, picked-once}
 use Rattle.decomposer.specs.Common.{NamedPicks}
 use Rattle.decomposer.specs.declared.orders.NamedOrder.{NamedOrder}
@@ -16,8 +16,10 @@ use Rattle.mcg6_lines.specs.Selecting.{IsSelected}
 use Rattle.mcg6_lines.specs.Telling.{HasFault, IsTold, TellsLine}
 use Rattle.mcg6_lines.specs.declared.query.Property.{Property}
 use Rattle.mcg6_lines.specs.declared.query.Query.{Query}
-use Rattle.mcg6_lines.specs.declared.query.Query.TheVariants.{Kinds, Leaves, Elementary, Matching, Graph as GraphFile, Select}
+use Rattle.mcg6_lines.specs.declared.query.Query.TheVariants.{Kinds, Leaves, Elementary, Matching, Cuts, Ears, Graph as GraphFile, Select}
 use Rattle.mcg6_lines.specs.Alike.{AreAlike, is_free}
+use Rattle.mcg6_lines.specs.CutLines.{AreCutLines}
+use Rattle.mcg6_lines.specs.EarLines.{AreEarLines, DifferInEars}
 use Rattle.mcg6_lines.proofs.AlikeMatchings.{matchings-alike}
 use Rattle.mcg6_lines.proofs.Counts.{lacks_none}
 use Rattle.mcg6_lines.proofs.OneStanding.{words_once}
@@ -37,6 +39,20 @@ leaves_once order front g a b one two =
 leaf_lines_once : (order : NamedOrder) (number : ℕ) (g : Graph) (a b : List ℕ) → AreLeafLines order number g a → AreLeafLines order number g b → a ≡ b
 leaf_lines_once order number g a b h k = grind (arith, leaves_once order (line_front number g) g a b)
 
+-- the candidates are one list
+cut_lines_once : (number : ℕ) (g : Graph) (a b : List ℕ) → AreCutLines number g a → AreCutLines number g b → a ≡ b
+cut_lines_once number g a b (inl one) (inl two) = one.lines ∙ sym two.lines
+cut_lines_once number g a b (inl one) (inr two) = absurd (two.0 one.covered)
+cut_lines_once number g a b (inr one) (inl two) = absurd (one.0 two.covered)
+cut_lines_once number g a b (inr one) (inr two) = one.1 ∙ sym two.1
+
+-- two ear lists of one graph in one line
+ear_lines_alike : (number : ℕ) (g : Graph) (a b : List ℕ) → AreEarLines number g a → AreEarLines number g b → AreAlike Ears a b
+ear_lines_alike number g a b (inl one) (inl two) = inl (record { number = number; graph = g; list = one.list; other = two.list; one_is = one.line; two_is = two.line })
+ear_lines_alike number g a b (inl one) (inr two) = absurd (two.0 one.covered)
+ear_lines_alike number g a b (inr one) (inl two) = absurd (one.0 two.covered)
+ear_lines_alike number g a b (inr one) (inr two) = inr (one.1, two.1)
+
 -- no graph both has a property and lacks it
 selected_once : (property : Property) (g : Graph) (line a b : List ℕ) → IsMultigraph g → IsSelected property g line a → IsSelected property g line b → a ≡ b
 selected_once property g line a b is h k = grind (arith, lacks_none g property is.ends)
@@ -46,6 +62,8 @@ told_alike Kinds number line g a b is one two = kind_line_once g a b is one two
 told_alike (Leaves order) number line g a b is one two = leaf_lines_once order number g a b one two
 told_alike Elementary number line g a b is one two = one ∙ sym two
 told_alike Matching number line g a b is one two = matchings-alike g a b one two
+told_alike Cuts number line g a b is one two = cut_lines_once number g a b one two
+told_alike Ears number line g a b is one two = ear_lines_alike number g a b one two
 told_alike GraphFile number line g a b is one two = one ∙ sym two
 told_alike (Select property) number line g a b is one two = selected_once property g line a b is one two
 
@@ -68,6 +86,8 @@ alike_once Kinds a b fixed alike = alike
 alike_once (Leaves order) a b fixed alike = alike
 alike_once Elementary a b fixed alike = alike
 alike_once Matching a b fixed alike = absurd (cc fixed)
+alike_once Cuts a b fixed alike = alike
+alike_once Ears a b fixed alike = absurd (cc fixed)
 alike_once GraphFile a b fixed alike = alike
 alike_once (Select property) a b fixed alike = alike
 

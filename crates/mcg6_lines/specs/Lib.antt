@@ -3,6 +3,8 @@ pub mod KindLines
 pub mod LeafLines
 pub mod Elementary
 pub mod MatchingLines
+pub mod CutLines
+pub mod EarLines
 pub mod Selecting
 pub mod Telling
 pub mod Alike

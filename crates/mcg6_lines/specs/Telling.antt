@@ -9,9 +9,11 @@ use Rattle.mcg6_lines.specs.KindLines.{IsKindLine}
 use Rattle.mcg6_lines.specs.LeafLines.{AreLeafLines}
 use Rattle.mcg6_lines.specs.Elementary.{elementary_lines}
 use Rattle.mcg6_lines.specs.MatchingLines.{IsMatchingLine}
+use Rattle.mcg6_lines.specs.CutLines.{AreCutLines}
+use Rattle.mcg6_lines.specs.EarLines.{AreEarLines}
 use Rattle.mcg6_lines.specs.Selecting.{IsSelected}
 use Rattle.mcg6_lines.specs.declared.query.Query.{Query}
-use Rattle.mcg6_lines.specs.declared.query.Query.TheVariants.{Kinds, Leaves, Elementary, Matching, Graph as GraphFile, Select}
+use Rattle.mcg6_lines.specs.declared.query.Query.TheVariants.{Kinds, Leaves, Elementary, Matching, Cuts, Ears, Graph as GraphFile, Select}
 
 -- the canonical text of the graph's file: of version 1 within its limits of 64 vertices and 512
 -- edges, and else of version 2 with plain names
@@ -26,6 +28,8 @@ IsTold Kinds number line g bytes = IsKindLine g bytes
 IsTold (Leaves order) number line g bytes = AreLeafLines order number g bytes
 IsTold Elementary number line g bytes = bytes ≡ elementary_lines number g
 IsTold Matching number line g bytes = IsMatchingLine g bytes
+IsTold Cuts number line g bytes = AreCutLines number g bytes
+IsTold Ears number line g bytes = AreEarLines number g bytes
 IsTold GraphFile number line g bytes = bytes ≡ file_text g
 IsTold (Select property) number line g bytes = IsSelected property g line bytes
 

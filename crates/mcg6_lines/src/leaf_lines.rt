@@ -35,8 +35,9 @@ pub fn leaf_lines(
     }
 }
 
-// The front of each line: the number of the graph's line, and its graph6 text.
-fn line_front(alloc: Global, number: u64, text: &[u8]) -> Result<Vec<u8>, Memory>
+/// The front of each line of `leaves`, and of other lines that name the graph: the number of its line,
+/// and its graph6 text. The only error is `Memory`.
+pub fn line_front(alloc: Global, number: u64, text: &[u8]) -> Result<Vec<u8>, Memory>
     ensures { (g : _) → outcome_of text.now ≡ Ok g
         → IfOk result (λ front. front.items ≡ line_front number g) }
 {

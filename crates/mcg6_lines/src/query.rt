@@ -37,6 +37,10 @@ pub enum Query {
     Elementary,
     /// A maximum matching, and its Gallai-Edmonds sets.
     Matching,
+    /// The candidates for a tight cut.
+    Cuts,
+    /// An ear decomposition.
+    Ears,
     /// The canonical text of its graph file.
     Graph,
     /// The line itself, if the graph has this property.

@@ -5,6 +5,8 @@ ghost use Rattle.graph_core.specs.Common.{IsSimple};
 ghost use Rattle.graph_text.specs.Common.{plain_names, named_text};
 ghost use Rattle.mcg6_lines.specs.Telling.{HasFault, IsTold, TellsLine, file_text};
 
+use crate::cut_lines::cut_lines;
+use crate::ear_lines::ear_lines;
 use crate::elementary_lines::elementary_lines;
 use crate::kind_lines::kind_line;
 use crate::leaf_lines::leaf_lines;
@@ -54,6 +56,8 @@ fn output(
         Query::Leaves { order } => leaf_lines(alloc, g, *order, number, line),
         Query::Elementary => elementary_lines(alloc, g, number),
         Query::Matching => matching_line(alloc, g, line),
+        Query::Cuts => cut_lines(alloc, g, number, line),
+        Query::Ears => ear_lines(alloc, g, number, line),
         Query::Graph => file_text(alloc, g),
         Query::Select { property } => selected(alloc, g, *property, line),
     }

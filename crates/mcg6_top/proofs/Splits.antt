@@ -5,7 +5,7 @@ use Rattle.std.proofs.Common.{◌≡◌, ◌∙◌, inl, inr, ℕ, ◌+◌, List
 use Rattle.std.proofs.lemmas.List.{map-append}
 use Rattle.line_text.specs.declared.faults.FaultKind.{FaultKind}
 use Rattle.mcg6_lines.specs.declared.query.Query.{Query}
-use Rattle.mcg6_lines.specs.declared.query.Query.TheVariants.{Kinds, Leaves, Elementary, Matching, Graph, Select}
+use Rattle.mcg6_lines.specs.declared.query.Query.TheVariants.{Kinds, Leaves, Elementary, Matching, Cuts, Ears, Graph, Select}
 use Rattle.mcg6_reader.proofs.Joins.{AllTold-append, GivesOutput-behind}
 use Rattle.mcg6_reader.proofs.LineCuts.{lines_of-closed}
 use Rattle.mcg6_reader.proofs.Skips.{Reported-behind}
@@ -29,6 +29,8 @@ line_moved Matching p q line output by told = (refl, record { graph = told.1.gra
 line_moved (Select property) p q line output by told = (refl, record { graph = told.1.graph; stands = told.1.stands; told = told.1.told })
 line_moved (Leaves order) p q line output by told = absurd (cc by)
 line_moved Elementary p q line output by told = absurd (cc by)
+line_moved Cuts p q line output by told = absurd (cc by)
+line_moved Ears p q line output by told = absurd (cc by)
 line_moved Graph p q line output by told = absurd (cc by)
 
 -- nor does the error of a bad one
@@ -38,6 +40,8 @@ bad_moved Matching p q line kind by bad = bad
 bad_moved (Select property) p q line kind by bad = bad
 bad_moved (Leaves order) p q line kind by bad = absurd (cc by)
 bad_moved Elementary p q line kind by bad = absurd (cc by)
+bad_moved Cuts p q line kind by bad = absurd (cc by)
+bad_moved Ears p q line kind by bad = absurd (cc by)
 bad_moved Graph p q line kind by bad = absurd (cc by)
 
 -- nothing is missing at the end
@@ -47,6 +51,8 @@ none_missing Matching by graphs = refl
 none_missing (Select property) by graphs = refl
 none_missing (Leaves order) by graphs = refl
 none_missing Elementary by graphs = refl
+none_missing Cuts by graphs = absurd (cc by)
+none_missing Ears by graphs = absurd (cc by)
 none_missing Graph by graphs = absurd (cc by)
 
 told_moved :

@@ -9,7 +9,7 @@ use Rattle.mcg6_lines.specs.from_decomposer.declared.orders.NamedOrder.TheVarian
 use Rattle.mcg6_lines.specs.declared.query.Property.{Property}
 use Rattle.mcg6_lines.specs.declared.query.Property.TheVariants.{Covered, Uncovered, Perfect, Brick, Brace, Bicritical, Composite, Bricks, Braces}
 use Rattle.mcg6_lines.specs.declared.query.Query.{Query}
-use Rattle.mcg6_lines.specs.declared.query.Query.TheVariants.{Kinds, Leaves, Elementary, Matching, Graph, Select}
+use Rattle.mcg6_lines.specs.declared.query.Query.TheVariants.{Kinds, Leaves, Elementary, Matching, Cuts, Ears, Graph, Select}
 use Rattle.mcg6_top.specs.declared.command.AtBadLine.{AtBadLine}
 use Rattle.mcg6_top.specs.declared.command.AtBadLine.TheVariants.{Stop, Skip}
 
@@ -58,6 +58,8 @@ query_named word =
     if bytes_eq word (codes "leaves") then Some (Leaves First) else
     if bytes_eq word (codes "elementary") then Some Elementary else
     if bytes_eq word (codes "matching") then Some Matching else
+    if bytes_eq word (codes "cuts") then Some Cuts else
+    if bytes_eq word (codes "ears") then Some Ears else
     if bytes_eq word (codes "graph") then Some Graph else None
 
 -- the leaves in the order that a word names, if it names one
@@ -80,6 +82,8 @@ may_skip Kinds = true
 may_skip (Leaves order) = true
 may_skip Elementary = true
 may_skip Matching = true
+may_skip Cuts = true
+may_skip Ears = true
 may_skip Graph = false
 may_skip (Select property) = true
 

@@ -4,7 +4,7 @@ use Rattle.std.specs.Prelude.{◌≡◌, ℕ, ◌==◌, ◌⊎◌, nat_lt, Bool,
 use Rattle.line_text.specs.declared.faults.FaultKind.{FaultKind}
 use Rattle.line_text.specs.declared.faults.FaultKind.TheVariants.{Extra, Missing}
 use Rattle.mcg6_lines.specs.declared.query.Query.{Query}
-use Rattle.mcg6_lines.specs.declared.query.Query.TheVariants.{Kinds, Leaves, Elementary, Matching, Graph, Select}
+use Rattle.mcg6_lines.specs.declared.query.Query.TheVariants.{Kinds, Leaves, Elementary, Matching, Cuts, Ears, Graph, Select}
 use Rattle.mcg6_lines.specs.Telling.{TellsLine, HasFault}
 use Rattle.mcg6_top.specs.declared.command.AtBadLine.{AtBadLine}
 use Rattle.mcg6_top.specs.declared.command.AtBadLine.TheVariants.{Stop, Skip}
@@ -17,6 +17,8 @@ is_past_graph Kinds place = false
 is_past_graph (Leaves order) place = false
 is_past_graph Elementary place = false
 is_past_graph Matching place = false
+is_past_graph Cuts place = false
+is_past_graph Ears place = false
 is_past_graph Graph place = nat_lt 0 place.graphs
 is_past_graph (Select property) place = false
 
@@ -35,6 +37,8 @@ lacks_of Kinds graphs = None
 lacks_of (Leaves order) graphs = None
 lacks_of Elementary graphs = None
 lacks_of Matching graphs = None
+lacks_of Cuts graphs = None
+lacks_of Ears graphs = None
 lacks_of Graph graphs = if graphs == 0 then Some Missing else None
 lacks_of (Select property) graphs = None
 
@@ -66,6 +70,8 @@ is_by_line Kinds = true
 is_by_line (Leaves order) = false
 is_by_line Elementary = false
 is_by_line Matching = true
+is_by_line Cuts = false
+is_by_line Ears = false
 is_by_line Graph = false
 is_by_line (Select property) = true
 

@@ -6,7 +6,6 @@ use Rattle.mcg6_encoder.specs.from_outside.Common.{Rose}
 use Rattle.mcg6_reader.specs.Common.{Appended, ReadsTold, Reports, TellsList, TellsRead}
 use Rattle.mcg6_reader.specs.declared.ending.InputEnding.TheVariants as ending
 use Rattle.mcg6_reader.specs.declared.ending.InputEnding.{InputEnding}
-use Rattle.mcg6_reader.specs.declared.ending.InputEnding.TheVariants as encoding
 use Rattle.mcg6_encoder.specs.Files.{Encodes}
 use Rattle.mcg6_encoder.specs.Reads.{EncodesFile, ReadsThenWrites}
 use Rattle.mcg6_top.specs.Asked.{list_asked}
@@ -92,8 +91,8 @@ pub record AnswersFile {S K : Type 0} (left : S → Option (List ℕ)) (faults :
     (written : K → Option (List ℕ)) (writes : K → List ℕ → ℕ → K → Type 0) (sink_faults : K → ℕ) (ended : InputEnding)
     (first last : S) (before now : K) : Type 0 where
   -- a fault of the outside comes only where its count rose in this run
-  pub read_fault : ended ≡ encoding.ReadFault → Rose (faults first) (faults last)
-  pub write_fault : ended ≡ encoding.WriteFault → Rose (sink_faults before) (sink_faults now)
+  pub read_fault : ended ≡ ending.ReadFault → Rose (faults first) (faults last)
+  pub write_fault : ended ≡ ending.WriteFault → Rose (sink_faults before) (sink_faults now)
   -- what was written is what the file gives up to this ending
   pub encodes : (file : List ℕ) → left first ≡ Some file → Appended (Encodes file ended) (written before) (written now)
   -- if the source does not tell what is left, it is what some file gives

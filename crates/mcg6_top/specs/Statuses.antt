@@ -4,7 +4,6 @@ use Rattle.std.specs.Prelude.{ℕ, List, [], ◌∷◌, Option, Some, None}
 use Rattle.mcg6_reader.specs.declared.ending.InputEnding.{InputEnding}
 use Rattle.mcg6_reader.specs.declared.ending.InputEnding.TheVariants as ending
 use Rattle.mcg6_reader.specs.declared.ending.BadLine.{BadLine}
-use Rattle.mcg6_reader.specs.declared.ending.InputEnding.TheVariants as encoding
 use Rattle.mcg6_top.specs.declared.status.ListRunEnding.{ListRunEnding}
 use Rattle.mcg6_top.specs.declared.status.ListRunEnding.TheVariants.{Answered, Encoded}
 use Rattle.mcg6_top.specs.declared.status.ListStatus.{ListStatus}
@@ -30,11 +29,11 @@ status_after ending.Memory founds = Memory
 
 -- the status of a graph file whose encoding ended so
 abbrev pub status_encoded : InputEnding → ListStatus
-status_encoded encoding.Done = Done
-status_encoded (encoding.Bad found) = BadInput
-status_encoded encoding.ReadFault = ReadFault
-status_encoded encoding.WriteFault = WriteFault
-status_encoded encoding.Memory = Memory
+status_encoded ending.Done = Done
+status_encoded (ending.Bad found) = BadInput
+status_encoded ending.ReadFault = ReadFault
+status_encoded ending.WriteFault = WriteFault
+status_encoded ending.Memory = Memory
 
 -- the status of a run that ended so
 abbrev pub status_at : ListRunEnding → ListStatus

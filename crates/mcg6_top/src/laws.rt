@@ -13,9 +13,10 @@ ghost use Rattle.mcg6_top.specs.declared.status.ListStatus.{ListStatus};
 ghost use Rattle.mcg6_top.specs.declared.status.ListStatus.TheVariants.{BadInput, Done};
 
 /// Whatever is asked of the graphs of a list, each line has one output, or it is bad with one kind
-/// of a first fault, and no line is both. For `matching`, which may write any maximum matching, two
-/// outputs of a line have in common what `AreAlike` says: the graph6 text, the size of the
-/// matching, and the Gallai-Edmonds sets.
+/// of a first fault, and no line is both. For `matching`, which may write any maximum matching, and
+/// `ears`, which may write many ear lists, two outputs of a line have in common what `AreAlike`
+/// says: for `matching` the graph6 text, the size of the matching and the Gallai-Edmonds sets, and
+/// for `ears` the number of the line and the graph6 text, unless both are empty.
 #[tactic(auto, using(crate::proofs::OneOutput::one_fault_each, crate::proofs::OneOutput::told_or_bad))]
 pub fn one_line_law()
     ensures output { (query : Query) → IsFalse (is_free query)
@@ -28,9 +29,9 @@ pub fn one_line_law()
 
 /// The bytes of a list leave nothing open but what a free query does. It is not both done and bad;
 /// any two outputs of a list that is done are equal, and so are those of one that is bad, with the
-/// number of the bad line at which it ends and the kind of its first fault. For `matching` two
-/// outputs consist of outputs for the same lines, and those are alike line by line. The other
-/// endings come of the outside.
+/// number of the bad line at which it ends and the kind of its first fault. For `matching`
+/// and `ears` two outputs consist of outputs for the same lines, and those are alike line by line.
+/// The other endings come of the outside.
 pub fn one_list_output_law()
     ensures status { (query : Query) (at_bad : AtBadLine) (bytes a b : List ℕ)
         → ListOutcome query at_bad bytes Done a → ListOutcome query at_bad bytes BadInput b → ⊥ }

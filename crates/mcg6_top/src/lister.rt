@@ -28,6 +28,8 @@ fn is_further(query: &Query, place: LinePlace) -> bool
         | Query::Leaves { .. }
         | Query::Elementary
         | Query::Matching
+        | Query::Cuts
+        | Query::Ears
         | Query::Select { .. } => false,
     }
 }
@@ -73,6 +75,8 @@ impl LineTeller for Lister {
             | Query::Leaves { .. }
             | Query::Elementary
             | Query::Matching
+            | Query::Cuts
+            | Query::Ears
             | Query::Select { .. } => None,
         }
     }

@@ -64,6 +64,8 @@ fn query_named(word: &str) -> Option<Query>
         }),
         "elementary" => Some(Query::Elementary),
         "matching" => Some(Query::Matching),
+        "cuts" => Some(Query::Cuts),
+        "ears" => Some(Query::Ears),
         "graph" => Some(Query::Graph),
         _ => None,
     }
@@ -108,6 +110,8 @@ fn may_skip(query: &Query) -> bool
         | Query::Leaves { .. }
         | Query::Elementary
         | Query::Matching
+        | Query::Cuts
+        | Query::Ears
         | Query::Select { .. } => true,
     }
 }

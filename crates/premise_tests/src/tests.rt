@@ -18,6 +18,7 @@ mod of_decompositions;
 mod of_deleted_edges;
 mod of_ears;
 mod of_elp_cuts;
+mod of_fractional_colourings;
 mod of_matchings;
 mod of_regular_graphs;
 mod of_search_tests;

@@ -40,10 +40,15 @@ pub mod ElementaryComponents
 pub mod CutsBeside
 pub mod ExtendableCuts
 pub mod ExtendableGraphs
+pub mod FarkasLemma
 pub mod FilesOfReads
 pub mod FirstSeparated
+pub mod FractionalBounds
+pub mod FractionalColourings
 pub mod HetyeiEars
 pub mod HetyeiSides
+pub mod IntegerProducts
+pub mod IntegerVectors
 pub mod JoinedMatchings
 pub mod KindsRead
 pub mod LaminarFamilies
@@ -51,6 +56,7 @@ pub mod LeafKindLists
 pub mod LinesTold
 pub mod MatchingLinesExist
 pub mod ListMembers
+pub mod ListedSets
 pub mod LoneSteps
 pub mod LoopedEdges
 pub mod Marriages
@@ -64,6 +70,7 @@ pub mod NamesRead
 pub mod Neighbourhoods
 pub mod NestedCuts
 pub mod NestedFamilies
+pub mod NumberedSets
 pub mod OpenParts
 pub mod OutcomesExist
 pub mod PartitionSides

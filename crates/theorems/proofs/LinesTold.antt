@@ -16,6 +16,8 @@ use Rattle.bench_tasks.specs.from_decomposer.Common.{NamedPicks}
 use Rattle.bench_tasks.specs.from_decomposer.declared.orders.NamedOrder.{NamedOrder}
 use Rattle.graph6_text.specs.Common.{outcome_of}
 use Rattle.bench_top.proofs.from_mcg6_lines.ReadMultigraphs.{read-multigraph}
+use Rattle.bench_top.specs.from_mcg6_lines.CutLines.{AreCutLines, cut_lines}
+use Rattle.bench_top.specs.from_mcg6_lines.EarLines.{AreEarLines, ear_line}
 use Rattle.bench_top.specs.from_mcg6_lines.Elementary.{elementary_lines}
 use Rattle.bench_top.specs.from_mcg6_lines.KindLines.{kind_line, standing_words}
 use Rattle.bench_top.specs.from_mcg6_lines.LeafLines.{AreLeafLines, leaf_lines, line_front}
@@ -25,15 +27,19 @@ use Rattle.bench_top.specs.from_mcg6_lines.Telling.{IsTold, file_text}
 use Rattle.bench_top.specs.from_mcg6_lines.declared.query.Property.{Property}
 use Rattle.bench_top.specs.from_mcg6_lines.declared.query.Property.TheVariants.{Covered, Uncovered as NotCovered, Perfect, Brick, Brace, Bicritical, Composite, Bricks, Braces}
 use Rattle.bench_top.specs.from_mcg6_lines.declared.query.Query.{Query}
-use Rattle.bench_top.specs.from_mcg6_lines.declared.query.Query.TheVariants.{Kinds, Leaves, Elementary, Matching, Graph as GraphFile, Select}
+use Rattle.bench_top.specs.from_mcg6_lines.declared.query.Query.TheVariants.{Kinds, Leaves, Elementary, Matching, Cuts, Ears, Graph as GraphFile, Select}
 use Rattle.bench_top.specs.from_mcg6_lines.declared.standings.Standing.{Standing}
 use Rattle.bench_top.specs.from_mcg6_lines.declared.standings.Standing.TheVariants.{Structured, Uncovered}
 use Rattle.mcg6_top.specs.from_mcg6_reader.declared.place.LinePlace.{LinePlace}
 use Rattle.mcg6_top.proofs.ListsExist.{list_outcome, settled_end}
 use Rattle.mcg6_top.specs.Common.{HasAnswer, HasListOutcome, IsBadLine, TellsLineOf, is_past_graph}
 use Rattle.mcg6_top.specs.declared.command.AtBadLine.{AtBadLine}
+use Rattle.tree_check.proofs.from_tight_cuts.Completeness.{candidates_apart, candidates_cover, candidates_found, candidates_none}
+use Rattle.tree_check.specs.from_tight_cuts.Common.{candidates}
+use Rattle.ear_text.proofs.from_ear_core.Stepping.{covered-edge}
 use Rattle.theorems.proofs.AnalysesExist.{structure_of}
 use Rattle.theorems.proofs.CommandOrders.{named-some}
+use Rattle.theorems.proofs.EarSteps.{ear-list-exists}
 use Rattle.theorems.proofs.LeafKindLists.{kinds-by_place, kinds-exist, tally-exists}
 use Rattle.theorems.proofs.MatchingLinesExist.{matching_line-exists}
 use Rattle.theorems.proofs.PickedDerivations.{picked-tree, some-tree}
@@ -96,6 +102,34 @@ module _ (g : Graph) (is : IsMultigraph g) where
         let kinds = kinds-exist g is.ends ps (partitions-leaves g t.0 t.1) in (
           leaf_lines (line_front number g) g ps kinds.0,
           inl (record { tree = t.0; derivation = t.1; picked = t.2; lines = record { kinds = kinds.0; right = kinds-by_place g ps kinds.0 kinds.1; lines = refl } }),
+        )
+    | inr uncovered ↦ ([], inr (uncovered, refl))
+  ]
+
+  -- the lines of its candidates
+  cut_output : (number : ℕ) → (output : List ℕ) × AreCutLines number g output
+  cut_output number = elim (covered_or g is) [
+    | inl cov ↦ (
+      cut_lines (line_front number g) (candidates g),
+      inl (record {
+        covered = cov;
+        lines = refl;
+        tight = candidates_found g is.ends cov;
+        once = candidates_apart g;
+        cover = candidates_cover g is.ends cov;
+        none = candidates_none g is.ends cov;
+      }),
+    )
+    | inr uncovered ↦ ([], inr (uncovered, refl))
+  ]
+
+  -- the line of an ear list
+  ear_output : (number : ℕ) → (output : List ℕ) × AreEarLines number g output
+  ear_output number = elim (covered_or g is) [
+    | inl cov ↦
+        let made = ear-list-exists g 1 is cov (covered-edge g is cov) in (
+          ear_line (line_front number g) g made.0,
+          inl (record { covered = cov; list = made.0; is = made.1; singles = made.5; unrefinable = made.3; single = made.4; line = refl }),
         )
     | inr uncovered ↦ ([], inr (uncovered, refl))
   ]
@@ -188,6 +222,8 @@ module _ (g : Graph) (is : IsMultigraph g) where
   told (Leaves order) number line = leaf_output order number
   told Elementary number line = (elementary_lines number g, refl)
   told Matching number line = matching_line-exists g is
+  told Cuts number line = cut_output number
+  told Ears number line = ear_output number
   told GraphFile number line = (file_text g, refl)
   told (Select property) number line = selected property line
 

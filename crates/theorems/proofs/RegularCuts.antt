@@ -21,6 +21,17 @@ module _ (r : ℕ) (g : Graph) (is : IsGraph g) (regular : IsRegular r g) (wide 
       let b = few_inside_all us (All-tail (λ x. is_odd (count g.order x) ≡ true) x us odd) in
       let c = mul-add r (count g.order x / 2) (sum_over (λ x. count g.order x / 2) us) in omega arith
 
+  -- a cover, summed over all edges
+  pub all_covered : (w : ℕ → ℕ) (d : Dual g w) → weight_of g w everything ≤ r * cover_value g d.y d.us
+  all_covered w d =
+      let c = d.cover in
+      let l = weight_le g w (covering g d.y d.us) everything (λ e i h. c.enough e i) in
+      settle (weight_of g w everything) (weight_of g (covering g d.y d.us) everything) (total g.order (λ v. d.y v * degree g everything v)) (sum_over (inner_size g) d.us) (total g.order d.y) (sum_over (λ x. count g.order x / 2) d.us)
+      l (cover_sum g d.y d.us everything is) (weighted_degrees r g d.y regular) (few_inside_all d.us c.odd)
+    where
+      settle : (w c e s y h : ℕ) → w ≤ c → c ≡ e + s → e ≡ r * y → s ≤ r * h → w ≤ r * (y + h)
+      settle w c e s y h a l m n = let q = mul-add r y h in omega arith
+
   module _ (x : Set) (t : IsTight g x) (p : Set) (pp : IsPerfect g none p) where
     abbrev weight : ℕ → ℕ
     weight e = g.order + bit (in_cut g x e)
@@ -40,23 +51,18 @@ module _ (r : ℕ) (g : Graph) (is : IsGraph g) (regular : IsRegular r g) (wide 
         settle : (a b c k i : ℕ) → a ≡ b → a ≤ c → c ≡ k + i → i ≡ 1 → b ≤ k + 1
         settle a b c k i e f h j = omega arith
 
-    -- the cover, summed over all edges
-    all_covered : g.order * count (size g) everything + cut_size g x ≤ r * cover_value g d.y d.us
-    all_covered =
-        let c = d.cover in
-        let l = weight_le g weight (covering g d.y d.us) everything (λ e w h. c.enough e w) in
-        settle (weight_of g weight everything) (weight_of g (covering g d.y d.us) everything) (g.order * count (size g) everything) (cut_size g x) (total g.order (λ v. d.y v * degree g everything v)) (sum_over (inner_size g) d.us) (total g.order d.y) (sum_over (λ x. count g.order x / 2) d.us)
-        l (cut_weight g g.order x everything) (cover_sum g d.y d.us everything is) (weighted_degrees r g d.y regular) (few_inside_all d.us c.odd)
-      where
-        settle : (w c k i e s y h : ℕ) → w ≤ c → w ≡ k + i → c ≡ e + s → e ≡ r * y → s ≤ r * h → k + i ≤ r * (y + h)
-        settle w c k i e s y h a b l m n = let q = mul-add r y h in omega arith
-
     at_most : cut_size g x ≤ r
     at_most =
         let s = perfect_size g p is pp in
         let a = all_edges r g is regular in
-        settle g.order (count (size g) everything) (count (size g) p) (cut_size g x) (cover_value g d.y d.us) s a cover_weight all_covered
+        settle g.order (count (size g) everything) (count (size g) p) (cut_size g x) (cover_value g d.y d.us) s a cover_weight in_cut_of_all
       where
+        under : (a b c d : ℕ) → a ≡ b + c → a ≤ d → b + c ≤ d
+        under a b c d h k = omega arith
+
+        in_cut_of_all : g.order * count (size g) everything + cut_size g x ≤ r * cover_value g d.y d.us
+        in_cut_of_all = under (weight_of g weight everything) (g.order * count (size g) everything) (cut_size g x) (r * cover_value g d.y d.us) (cut_weight g g.order x everything) (all_covered weight d)
+
         settle : (n m k i c : ℕ) → n ≡ 2 * k → r * n ≡ 2 * m → c ≤ n * k + 1 → n * m + i ≤ r * c → i ≤ r
         settle n m k i c s a l h =
             let u : n ≡ k + k = omega arith in

@@ -2,9 +2,11 @@ pub mod Barriers
 pub mod Bipartite
 pub mod Braces
 pub mod Bricks
+pub mod Colourings
 pub mod CutWords
 pub mod Derivations
 pub mod Ears
+pub mod Inequalities
 pub mod Matchings
 pub mod Outcomes
 pub mod Preorder

@@ -6,10 +6,10 @@
 //! and `docs/THEOREMS.md`, the book that follows this crate, say which. A file is a chapter:
 //! `matchings`, `barriers`, `elementary` (elementary components), `bipartite`, `cuts` (uncrossing
 //! and laminar families), `decompositions` (their uniqueness, and the numbers of bricks and
-//! braces), `bricks`, `braces`, `extendable` (2-extendable graphs), `regular_graphs`, `separating`
-//! (separating cuts), `ears`, `weights` (weighted matchings), `outcomes` (what the program reports),
-//! and `program`, an appendix on definitions of the program. What a chapter defines beyond the lower crates is in a file of
-//! `specs/`.
+//! braces), `bricks`, `braces`, `extendable` (2-extendable graphs), `regular_graphs`,
+//! `inequalities` (Farkas' lemma), `separating` (separating cuts), `ears`, `weights` (weighted
+//! matchings), `outcomes` (what the program reports), and `program`, an appendix on definitions of
+//! the program. What a chapter defines beyond the lower crates is in a file of `specs/`.
 //!
 //! No part of the program depends on this crate. Sources: Lovász and Plummer, "Matching Theory"
 //! (1986); Lucchesi and Murty, "Perfect Matchings" (2024).
@@ -24,6 +24,7 @@ mod decompositions;
 mod ears;
 mod elementary;
 mod extendable;
+mod inequalities;
 mod installed;
 mod installed_lists;
 mod matchings;
@@ -47,6 +48,7 @@ pub use ears::{
 };
 pub use elementary::elementary_components_law;
 pub use extendable::extendable_law;
+pub use inequalities::farkas_law;
 pub use installed::installed_runs_law;
 pub use installed_lists::{idle_law, installed_lists_law};
 pub use matchings::{berge_law, gallai_edmonds_law, gallai_lemma_law, tutte_law};
@@ -55,6 +57,6 @@ pub use program::{
     brace_test_law, brick_test_law, counts_law, first_separated_law, selection_law, third_part_law,
     tree_nodes_law,
 };
-pub use regular_graphs::{cubic_law, regular_law};
+pub use regular_graphs::{cubic_law, fractional_law, regular_law};
 pub use separating::separating_law;
 pub use weights::matching_duality_law;

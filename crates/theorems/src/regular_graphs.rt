@@ -6,9 +6,10 @@
 //! Tutte" (1979); Lovász and Plummer, "Matching Theory", chapter 7.
 ghost use Rattle.std.specs.Prelude.{◌≡◌, ◌≢◌, ℕ, ◌≤◌, ◌↔◌, ◌+◌, ◌⊎◌, true, false};
 ghost use Rattle.tree_check.specs.from_counting.Common.{Set, Within, count, is_odd, none};
-ghost use Rattle.graph_core.specs.Common.{IsConnected, IsCovered, Graph, IsMultigraph, HasOnlyTrivialTightCuts, IsNontrivial, IsPerfect, IsTight, IsSide, Allowed, size};
+ghost use Rattle.graph_core.specs.Common.{IsConnected, IsCovered, Graph, IsGraph, IsMultigraph, HasOnlyTrivialTightCuts, IsNontrivial, IsPerfect, IsTight, IsSide, Allowed, size};
 ghost use Rattle.bench_tasks.specs.from_grow_gen.Common.{IsCubic};
 ghost use Rattle.theorems.specs.RegularGraphs.{HasWideOddCuts, IsRegular, IsTwoEdgeConnected, cut_size};
+ghost use Rattle.theorems.specs.Colourings.{FractionalColouring};
 ghost use Rattle.theorems.specs.CutWords.{IsBrace, IsBrick};
 
 /// Regular graphs: let G be an r-graph, an r-regular multigraph in which each odd vertex set has at
@@ -48,6 +49,16 @@ pub fn regular_law()
         is_odd g.order ≡ false →
         ((x : Set) (u v : ℕ) → Within g.order u → Within g.order v → x u ≡ true → x v ≡ false →
         r ≤ cut_size g x + 1) → HasWideOddCuts r g }
+{}
+
+/// Seymour's theorem on r-graphs: a graph is an r-graph if and only if, for some k ≥ 1, a list of rk
+/// perfect matchings, with repetitions, contains each edge exactly k times; that is, it has a
+/// fractional edge colouring with r colours (Edmonds 1965; Seymour 1979).
+pub fn fractional_law()
+    ensures colouring { (r : ℕ) (g : Graph) → IsGraph g → IsRegular r g → HasWideOddCuts r g →
+        FractionalColouring r g }
+    ensures converse { (r : ℕ) (g : Graph) → IsGraph g → FractionalColouring r g →
+        IsRegular r g × HasWideOddCuts r g }
 {}
 
 /// Cubic graphs: a 2-edge-connected cubic graph with at least two vertices is matching covered

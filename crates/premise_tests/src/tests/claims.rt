@@ -60,6 +60,10 @@ pub enum Claim {
     Few(&'static [u32], u32),
     /// Some perfect matching has none of these edges.
     Avoided(&'static [u32]),
+    /// Each perfect matching has at least so many of these edges, the first number, and there are
+    /// fewer of them than that number times the second, r. So no list of r k perfect matchings,
+    /// k ≥ 1, contains each edge exactly k times.
+    Overused(&'static [u32], u32, u32),
     /// Without the vertex, maximum matchings miss the same vertices, that vertex aside.
     Stable(u32),
     /// Without the vertex, a maximum matching has one edge less.

@@ -61,6 +61,10 @@ impl Claim {
             Claim::OneOrTwo(pairs) => serve_two(g, pairs),
             Claim::Few(set, most) => set_of(set).count_ones() < *most,
             Claim::Avoided(edges) => g.is_avoided(set_of(edges)),
+            Claim::Overused(edges, least, r) => {
+                let many = set_of(edges).count_ones();
+                many < least.saturating_mul(*r) && g.all_have(set_of(edges), *least)
+            }
             Claim::Stable(v) => g.is_stable(one(*v)),
             Claim::OneLess(v) => g.is_one_less(one(*v)),
             other => other.is_seen_of_ears(g),

@@ -25,6 +25,16 @@ impl PairGraph {
         false
     }
 
+    /// Whether each perfect matching has at least so many of these edges.
+    pub fn all_have(&self, edges: u32, least: u32) -> bool {
+        for matching in &self.matchings {
+            if matching.met == self.all && (matching.edges & edges).count_ones() < least {
+                return false;
+            }
+        }
+        true
+    }
+
     pub fn is_matching(&self, edges: u32) -> bool {
         for matching in &self.matchings {
             if matching.edges == edges {
