@@ -84,13 +84,13 @@ def plane_drawings(
     if not is_firm:
         reaches = [1.1, 2.0]
         is_large = graph.order > _MANY
-        some = found[:3] if is_large else found
+        some = found[:2] if is_large else found
         both = [p for p in some for _ in reaches]
-        found += relax_all(both, graph.pairs, 150 if is_large else 250, reaches * len(some))
+        found += relax_all(both, graph.pairs, 100 if is_large else 250, reaches * len(some))
     if max(resolution(p, graph.pairs) for p in found) < _CROWDED:
         # deep nesting leaves too little room in the middle: from a grid, vertices have more
         some = [*found[:2], _on_grid(first, graph), _on_grid(first, graph)]
-        steps = 200 if graph.order > _MANY else 500
+        steps = 120 if graph.order > _MANY else 500
         found += relax_all(some, graph.pairs, steps, [1.6, 1.6, 1.1, 2.0][-len(some) :])
     return found
 

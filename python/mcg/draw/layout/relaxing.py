@@ -194,12 +194,12 @@ class _Pushes:
         k, n, m = shape
         row, edge = np.divmod(near, m)
         self.rows, self.edges, self.t = row, row // n * m + edge, t
-        self.vertices_of, self.edges_of = (k, n), (k, m)
+        self.shape = k, n, m
 
     def of(self, push: Array) -> Tuple[Array, Array, Array]:
         """Returns the force on each vertex, on each edge, and the part of this on its second end."""
-        on_vertex = np.bincount(self.rows, push, np.prod(self.vertices_of))
-        on_edge = np.bincount(self.edges, push, np.prod(self.edges_of))
-        at_second = np.bincount(self.edges, push * self.t, np.prod(self.edges_of))
-        shaped = on_edge.reshape(self.edges_of), at_second.reshape(self.edges_of)
-        return (on_vertex.reshape(self.vertices_of), *shaped)
+        k, n, m = self.shape
+        on_vertex = np.bincount(self.rows, push, k * n).reshape(k, n)
+        on_edge = np.bincount(self.edges, push, k * m).reshape(k, m)
+        at_second = np.bincount(self.edges, push * self.t, k * m).reshape(k, m)
+        return on_vertex, on_edge, at_second

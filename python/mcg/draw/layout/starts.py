@@ -13,7 +13,7 @@ from .relaxing import distances, majorize, relax_all
 from .symmetry import coprime, mirrored, one_circle, rings, snapped, turns_and_mirrors
 
 _SEEDS, _FEW_SEEDS = 4, 2  # random radii tried for each rotation and each mirror
-_CLOSER, _FEW_CLOSER = 32, 16  # symmetric drawings that get a closer look
+_CLOSER, _FEW_CLOSER = 32, 10  # symmetric drawings that get a closer look
 _MANY = 40  # vertices; of larger graphs fewer drawings are tried
 
 
@@ -31,7 +31,8 @@ def tangled(graph: PlainGraph, shores: Sequence[Iterable[int]]) -> List[Array]:
     listed = _promising(symmetric(graph, d), pairs, closer) + _promising(others, pairs, 10)
     listed.sort(key=lambda p: round(cost(p, pairs, shores), 6))
     listed = listed[: 5 if n <= _MANY else 3]
-    return listed + relax_all(listed, pairs, 120, [1.1] * len(listed))
+    steps = 120 if n <= _MANY else 60
+    return listed + relax_all(listed, pairs, steps, [1.1] * len(listed))
 
 
 def _promising(drawings: List[Array], pairs: Pairs, count: int) -> List[Array]:
