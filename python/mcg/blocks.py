@@ -37,18 +37,27 @@ class Block(Stream):
 
     def start(self, most: int) -> None:
         """Takes at most so many lines, at least one if there is one, and starts the process."""
-        taken: List[bytes] = []
-        until = time.monotonic() + PATIENCE
-        while (
-            self.sent < most and self._size < MOST_BYTES and (not taken or time.monotonic() < until)
-        ):
-            line = self._take()
-            if line is None:
-                break
-            taken += [line, b"\n"]
-            self._size += len(line) + 1
-        source, drain, said = self._files = file_of(b"".join(taken)), new_file(), new_file()
+        text = b"".join(it + b"\n" for it in self._whole_block(most))
+        source, drain, said = self._files = file_of(text), new_file(), new_file()
         self._process = started("mcg6", self.words, stdin=source, stdout=drain, stderr=said)
+
+    def _whole_block(self, most: int) -> Sequence[bytes]:
+        """The lines of the block; all are kept. What `_take` does for each is done here for all."""
+        taken: List[bytes] = []
+        size, until, clock = 0, time.monotonic() + PATIENCE, time.monotonic
+        try:
+            while len(taken) < most and size < MOST_BYTES and (not taken or clock() < until):
+                line = next(self.lines, None)
+                if line is None:
+                    self.is_last = True
+                    break
+                taken.append(line)
+                size += len(line) + 1
+        except Exception as failure:
+            self._failure, self.is_last = failure, True
+        self._kept.extend(taken)
+        self.sent, self._size = len(taken), size
+        return taken
 
     def is_running(self) -> bool:
         """Returns whether the process still runs. Its exit status is left for `wait`."""

@@ -42,11 +42,11 @@ class Kind:
     given: Any = field(default=None, compare=False)
 
     @classmethod
-    def of(cls, *values: Any) -> Kind:
-        """Returns the kind with these values of all fields. They are set at once, which takes less
-        time than the frozen class takes, and a list can have millions."""
+    def of(cls, index: int, graph6: str, facts: Mapping[str, Any], given: Any) -> Kind:
+        """Returns the kind with these values; `facts` has the other fields by name. They are set at
+        once, which takes less time than the frozen class takes, and a list can have millions."""
         made = object.__new__(cls)
-        made.__dict__.update(zip(_KIND_FIELDS, values))
+        made.__dict__.update(facts, index=index, graph6=graph6, given=given)
         return made
 
     def __repr__(self) -> str:
@@ -66,9 +66,6 @@ class Kind:
         `BadText`."""
         with dicts.understood("a kind"):
             return cls(**given, given=graph)
-
-
-_KIND_FIELDS = tuple(it.name for it in fields(Kind))
 
 
 @dataclass(frozen=True, repr=False)

@@ -2,7 +2,8 @@
 from __future__ import annotations
 
 from contextlib import closing
-from typing import Any, Callable, Iterable, Iterator, List, Optional, Sequence, TypeVar
+from functools import lru_cache
+from typing import Any, Callable, Dict, Iterable, Iterator, List, Optional, Sequence, TypeVar
 
 from . import graph6
 from .blocks import at_once
@@ -154,23 +155,32 @@ def answers(
 
 def _kind(row: bytes, session: Session) -> Kind:
     """The parts of a line of `mcg6 kinds`."""
-    line, order, size, word, *more = row.split(b" ")
-    sent = session.text_of(line)
-    about = sent.number, line.decode("ascii"), int(order), int(size)
+    line, _, rest = row.partition(b" ")
+    number, _, given, _ = session.sent_as(line)
+    return Kind.of(number, line.decode("ascii"), _facts(rest), given)
+
+
+@lru_cache(maxsize=4096)
+def _facts(words: bytes) -> Dict[str, Any]:
+    """What a line of `mcg6 kinds` says after the graph, by the names of the fields of `Kind`. The
+    lines of a list say the same of many graphs."""
+    order, size, word, *more = words.split(b" ")
+    facts: Dict[str, Any] = {"order": int(order), "size": int(size), "covered": word != b"uncovered"}
+    facts.update(reason=None, deficiency=0, kind=None, bricks=None, braces=None, bicritical=None)
     if word == b"uncovered":
         reason, deficiency = more
-        faults = reason.decode("ascii"), int(deficiency)
-        return Kind.of(*about, False, *faults, None, None, None, None, sent.given)
+        facts.update(reason=reason.decode("ascii"), deficiency=int(deficiency))
+        return facts
     bricks, braces, name, answer = more
     if name != b"bicritical":
-        raise ValueError(row)
-    known = KIND_WORDS[word], int(bricks), int(braces), ANSWERS[answer]
-    return Kind.of(*about, True, None, 0, *known, sent.given)
+        raise ValueError(words)
+    facts.update(kind=KIND_WORDS[word], bricks=int(bricks), braces=int(braces), bicritical=ANSWERS[answer])
+    return facts
 
 
 def _given(row: bytes, session: Session) -> Any:
     """The graph of a line of `mcg6 select`."""
-    return session.text_of(row).given
+    return session.sent_as(row)[2]
 
 
 def _leaf(row: bytes, session: Session) -> ListLeaf:

@@ -50,6 +50,9 @@ class Sent(NamedTuple):
         return None if self.labelled is None else self.labelled.vertices
 
 
+SentParts = Tuple[int, bytes, Any, Optional[Graph]]  # those of `Sent`, which take less time to make
+
+
 class Session:
     """Graphs that are sent through one process, and those of them of which nothing was heard yet.
 
@@ -69,28 +72,32 @@ class Session:
     ) -> None:
         self.graphs, self.skipped, self.before, self.count = graphs, skipped, before, 0
         self.stream = self.sends_by(words, self._lines(), skipped is not None, before)
-        self.waiting: Deque[Sent] = deque()
+        self.waiting: Deque[SentParts] = deque()
         self.faults: Dict[int, BadInput] = {}
 
     def _lines(self) -> Iterator[bytes]:
         for graph in self.graphs:
-            number = self.before + self.count
-            try:
-                line, labelled = _line(graph)
-            except BadInput as fault:
-                made: Type[BadInput] = type(fault)
-                named = made(
-                    f"graph {number + 1} of the list: {fault.words}{_hint(graph)}",
-                    number + 1,
-                    fault.kind,
-                )
-                if self.skipped is None:
-                    raise named from None
-                self.faults[self.count + 1] = named
-                line, labelled = b"", None
+            labelled = None
+            line = _plain_line(graph) if isinstance(graph, str) else None
+            if line is None:
+                try:
+                    line, labelled = _line(graph)
+                except BadInput as fault:
+                    self._keep_fault(fault, graph)
+                    line = b""
+            self.waiting.append((self.before + self.count, line, graph, labelled))
             self.count += 1
-            self.waiting.append(Sent(number, line, graph, labelled))
             yield line
+
+    def _keep_fault(self, fault: BadInput, graph: Any) -> None:
+        """Keeps the exception for a graph that has no line, or raises it, with its place."""
+        made: Type[BadInput] = type(fault)
+        place = self.before + self.count + 1
+        words = f"graph {place} of the list: {fault.words}{_hint(graph)}"
+        named = made(words, place, fault.kind)
+        if self.skipped is None:
+            raise named from None
+        self.faults[self.count + 1] = named
 
     def rows(self) -> Generator[bytes, None, None]:
         """The lines that mcg6 writes; at the end those that it skipped are known."""
@@ -104,20 +111,25 @@ class Session:
     def text_of(self, line: bytes) -> Sent:
         """The next graph that was sent with this line: the lines that come back are some of those
         sent, in order, and equal ones all come or none. Raises `ValueError` if there is none."""
+        return Sent(*self.sent_as(line))
+
+    def sent_as(self, line: bytes) -> SentParts:
+        """The parts of `text_of(line)`, which take less time to make."""
         while self.waiting:
             sent = self.waiting.popleft()
-            if sent.line == line:
+            if sent[1] == line:
                 return sent
         raise ValueError(f"mcg6 wrote a line that was not sent: {line!r}")
 
     def number_of(self, number: int) -> Sent:
         """The graph with this number among those that were sent, from 1, which is the last that was
         asked for or a later one. Raises `ValueError` if there is none."""
-        while self.waiting and self.waiting[0].number < self.before + number - 1:
+        place = self.before + number - 1
+        while self.waiting and self.waiting[0][0] < place:
             self.waiting.popleft()
-        if not self.waiting or self.waiting[0].number != self.before + number - 1:
+        if not self.waiting or self.waiting[0][0] != place:
             raise ValueError(f"mcg6 wrote of line {number}, which was not sent")
-        return self.waiting[0]
+        return Sent(*self.waiting[0])
 
 
 def one_by_one(
@@ -177,13 +189,17 @@ def _text(graph: Any) -> str:
     return graph if isinstance(graph, str) else bytes(graph).decode("latin-1")
 
 
+def _plain_line(graph: str) -> Optional[bytes]:
+    """The line of a text that needs no closer look, as most do; else None."""
+    plain = graph[:-1] if graph.endswith("\n") else graph
+    if len(plain) < MOST_LINE and plain.isascii() and plain.isprintable() and plain[:1] != ">":
+        return plain.encode("ascii")
+    return None
+
+
 def _line(graph: Any) -> Tuple[bytes, Optional[Graph]]:
     """The line of a graph, without its end, and the graph if it has labels. Raises `BadGraph` or
     `TooLarge` for what has no line."""
-    if isinstance(graph, str):  # most lines are plain, and many
-        plain = graph[:-1] if graph.endswith("\n") else graph
-        if len(plain) < MOST_LINE and plain.isascii() and plain.isprintable() and plain[:1] != ">":
-            return plain.encode("ascii"), None
     if not isinstance(graph, (str, bytes)):
         numbered = Graph(graph)
         demand_size(numbered.order, len({(min(it), max(it)) for it in numbered.ends}))

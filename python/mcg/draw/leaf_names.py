@@ -32,11 +32,18 @@ def _both(a: int, b: int) -> Iterable[Tuple[int, int]]:
     return ((i, a + j) for i in range(a) for j in range(b))
 
 
+def _graph(edges: Iterable[Tuple[int, int]]) -> Any:
+    """The graph with these edges. (NetworkX would load pandas, if it is there, for `Graph(edges)`.)"""
+    import networkx as nx
+
+    made = nx.Graph()
+    made.add_edges_from(edges)
+    return made
+
+
 @lru_cache(maxsize=None)
 def _known() -> List[Tuple[Any, Runs]]:
     """The graphs that have a name, with the name."""
-    import networkx as nx
-
     listed: List[Tuple[Iterable[Tuple[int, int]], Runs]] = [
         ([(0, 1)], _letter("K", "2")),
         (itertools.combinations(range(4), 2), _letter("K", "4")),
@@ -53,7 +60,7 @@ def _known() -> List[Tuple[Any, Runs]]:
         (_wheel(7), [Run("7-wheel")]),
         (_ladder(4), [Run("Möbius ladder on 8")]),
     ]
-    return [(nx.Graph(list(edges)), name) for edges, name in listed]
+    return [(_graph(edges), name) for edges, name in listed]
 
 
 def leaf_name(graph: PlainGraph) -> Runs:
@@ -63,7 +70,7 @@ def leaf_name(graph: PlainGraph) -> Runs:
         import networkx as nx
     except ImportError:
         return [Run(f"on {graph.order} vertices")]
-    simple = nx.Graph(graph.pairs)
+    simple = _graph(graph.pairs)
     for known, name in _known():
         same = len(known) == len(simple) and known.number_of_edges() == simple.number_of_edges()
         if same and nx.is_isomorphic(known, simple):

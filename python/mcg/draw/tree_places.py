@@ -76,7 +76,7 @@ def _followed(node: Node, above: Node) -> Array:
         q = target
     pairs, many = node.graph.pairs, node.graph.parallel()
     slack = np.array([1.0 + 0.9 * (len(many[pair]) - 1) for pair in pairs])
-    q = relax(q, pairs, 16 if is_large else 200, slack=slack)
+    q = relax(q, pairs, 16 if is_large else 100, slack=slack)
     if not is_large and (resolution(q, pairs) < _CROWDED or strangers(q, node.inner_shores())):
         return _own(node, target)
     far = float(np.ptp(np.array(above.places), axis=0).max())

@@ -10,13 +10,24 @@ import numpy as np
 
 from ..plain import PlainGraph
 from .arrays import TINY, Array, Pairs, centred, ends_of, turned_by
-from .measures import cost, crossings, evened, hull, lengths, scaled, symmetries, vertex_edge
+from .measures import (
+    cost,
+    crossings,
+    evened,
+    hull,
+    lengths,
+    resolution,
+    scaled,
+    symmetries,
+    vertex_edge,
+)
 from .plane import plane_drawings
 from .relaxing import distances, majorize
-from .starts import circles, rows, tangled
+from .starts import circles, round_table, rows, tangled
 from .symmetry import refined, turns_and_mirrors
 
 Shores = Sequence[Iterable[int]]
+_NO_ROOM = 0.03  # where vertices are as near as that, all go on one circle
 _CHORDS = 3  # the most edges that may be too many for a symmetric drawing of the rest
 
 
@@ -57,6 +68,8 @@ def _placed(
             return near
     options = [scaled(p, graph.pairs) for p in plane or tangled(graph, shores)]
     best = evened(_best(graph, options, shores, bool(plane)), graph.pairs)
+    if not plane and resolution(best, graph.pairs) < _NO_ROOM:
+        best = scaled(round_table(graph), graph.pairs)
     return centred(upright(best, graph.pairs))
 
 
@@ -131,7 +144,7 @@ def _near_a_symmetric_one(graph: PlainGraph) -> Optional[Array]:
 
 def _keeps_off(p: Array, pairs: Pairs) -> bool:
     """Whether all edges keep off all foreign vertices."""
-    return bool(vertex_edge(p, ends_of(pairs))[0].min() > 0.04 * float(lengths(p, pairs).mean()))
+    return bool(vertex_edge(p, ends_of(pairs)).min() > 0.04 * float(lengths(p, pairs).mean()))
 
 
 # ------------------------------------------------------------------ turning

@@ -35,18 +35,12 @@ def scaled(p: Array, pairs: Pairs) -> Array:
 def crossing_matrix(p: Array, pairs: Pairs) -> Flags:
     """Returns which two edges without a common end cross."""
     e = ends_of(pairs)
-    a, b = p[e[:, 0]], p[e[:, 1]]
-    side_a = cross(a[:, None], b[:, None], a[None])
-    side_b = cross(a[:, None], b[:, None], b[None])
-    parted = side_a * side_b < -1e-12
-    found: Flags = parted & parted.T & ~_shared(e)
-    return found
-
-
-def _shared(e: Integers) -> Flags:
-    a, b = e[:, 0], e[:, 1]
-    found: Flags = (a[:, None] == a[None]) | (b[:, None] == b[None])
-    found |= (a[:, None] == b[None]) | (b[:, None] == a[None])
+    x, y = np.ascontiguousarray(p[:, 0]), np.ascontiguousarray(p[:, 1])
+    ax, ay = x[e[:, 0], None], y[e[:, 0], None]
+    # on which side of each edge each vertex is; its own ends are on none, exactly
+    side = (x[e[:, 1], None] - ax) * (y - ay) - (y[e[:, 1], None] - ay) * (x - ax)
+    parted = side[:, e[:, 0]] * side[:, e[:, 1]] < -1e-12
+    found: Flags = parted & parted.T
     return found
 
 
@@ -55,9 +49,8 @@ def crossings(p: Array, pairs: Pairs) -> int:
     return int(crossing_matrix(p, pairs).sum()) // 2 if len(pairs) > 1 else 0
 
 
-def vertex_edge(p: Array, e: Integers) -> Tuple[Array, Array, Array]:
-    """Returns the distance of each vertex from each edge (infinite for its own edges), the place
-    of the nearest point on the edge, from 0 to 1, and the way from that point to the vertex."""
+def vertex_edge(p: Array, e: Integers) -> Array:
+    """Returns the distance of each vertex from each edge, infinite for its own edges."""
     a = p[e[:, 0]]
     d = p[e[:, 1]] - a
     x = p[:, 0, None] - a[None, :, 0]
@@ -69,7 +62,7 @@ def vertex_edge(p: Array, e: Integers) -> Tuple[Array, Array, Array]:
     k = np.arange(len(e))
     far[e[:, 0], k] = np.inf
     far[e[:, 1], k] = np.inf
-    return far, t, np.stack([x, y], -1)
+    return far
 
 
 def least_angle(p: Array, pairs: Pairs) -> float:
@@ -183,7 +176,7 @@ def resolution(p: Array, pairs: Pairs) -> float:
     far = float(np.hypot(middle[:, 0], middle[:, 1]).max())
     room = float(apart(p).min())
     if len(pairs) > 1:
-        room = min(room, 1.6 * float(vertex_edge(p, ends_of(pairs))[0].min()))
+        room = min(room, 1.6 * float(vertex_edge(p, ends_of(pairs)).min()))
     return room * math.sqrt(len(p)) / max(2 * far, TINY)
 
 

@@ -18,6 +18,7 @@ _SEEDS = 24  # by which different embeddings are looked for
 _EMBEDDINGS = 4  # tried of a graph with several
 _OUTER_FACES = 12  # tried of each embedding
 _ROUNDS, _FEW_ROUNDS = 24, 8
+_MANY = 40  # vertices; of larger graphs fewer drawings are relaxed, and less
 _CROWDED = 0.3  # the room below which other starts are tried
 
 Face = List[int]
@@ -45,7 +46,8 @@ def is_three_connected(graph: PlainGraph) -> bool:
     vertex that separates it."""
     if graph.order < 4:
         return False
-    whole = nx.Graph(graph.pairs)
+    whole = nx.Graph()
+    whole.add_edges_from(graph.pairs)  # (a list given to Graph would be tried as a table of pandas)
     for v in range(graph.order):
         rest = whole.subgraph(set(whole) - {v})
         if not nx.is_connected(rest) or next(nx.articulation_points(rest), None) is not None:
@@ -81,12 +83,15 @@ def plane_drawings(
     found = [opened(tried[rank], graph.pairs) for rank in sorted(tried)[:most]]
     if not is_firm:
         reaches = [1.1, 2.0]
-        both = [p for p in found for _ in reaches]
-        found += relax_all(both, graph.pairs, 250, reaches * len(found))
+        is_large = graph.order > _MANY
+        some = found[:2] if is_large else found
+        both = [p for p in some for _ in reaches]
+        found += relax_all(both, graph.pairs, 100 if is_large else 250, reaches * len(some))
     if max(resolution(p, graph.pairs) for p in found) < _CROWDED:
         # deep nesting leaves too little room in the middle: from a grid, vertices have more
         some = [*found[:2], _on_grid(first, graph), _on_grid(first, graph)]
-        found += relax_all(some, graph.pairs, 500, [1.6, 1.6, 1.1, 2.0][-len(some) :])
+        steps = 120 if graph.order > _MANY else 500
+        found += relax_all(some, graph.pairs, steps, [1.6, 1.6, 1.1, 2.0][-len(some) :])
     return found
 
 

@@ -12,8 +12,9 @@ from .measures import cost, crossings, lengths, quick_cost, scaled
 from .relaxing import distances, majorize, relax_all
 from .symmetry import coprime, mirrored, one_circle, rings, snapped, turns_and_mirrors
 
-_SEEDS = 4  # random radii tried for each rotation and each mirror
-_CLOSER = 32  # symmetric drawings that get a closer look
+_SEEDS, _FEW_SEEDS = 4, 2  # random radii tried for each rotation and each mirror
+_CLOSER, _FEW_CLOSER = 32, 10  # symmetric drawings that get a closer look
+_MANY = 40  # vertices; of larger graphs fewer drawings are tried
 
 
 def tangled(graph: PlainGraph, shores: Sequence[Iterable[int]]) -> List[Array]:
@@ -26,10 +27,12 @@ def tangled(graph: PlainGraph, shores: Sequence[Iterable[int]]) -> List[Array]:
         others += majorized([circles(graph, d)], far, 30)
     if len(pairs) > 3 * n:
         others.append(round_table(graph))
-    listed = _promising(symmetric(graph, d), pairs, _CLOSER) + _promising(others, pairs, 10)
+    closer = _CLOSER if n <= _MANY else _FEW_CLOSER
+    listed = _promising(symmetric(graph, d), pairs, closer) + _promising(others, pairs, 10)
     listed.sort(key=lambda p: round(cost(p, pairs, shores), 6))
-    listed = listed[: 5 if n <= 40 else 3]
-    return listed + relax_all(listed, pairs, 120, [1.1] * len(listed))
+    listed = listed[: 5 if n <= _MANY else 3]
+    steps = 120 if n <= _MANY else 60
+    return listed + relax_all(listed, pairs, steps, [1.1] * len(listed))
 
 
 def _promising(drawings: List[Array], pairs: Pairs, count: int) -> List[Array]:
@@ -54,7 +57,7 @@ def majorized(starts: Sequence[Array], d: Array, steps: int = 200) -> List[Array
 
 
 def _random(n: int) -> List[Array]:
-    count = 16 if n <= 40 else 8
+    count = 16 if n <= _MANY else 8
     return [np.random.RandomState(k).uniform(-1, 1, (n, 2)) * math.sqrt(n) for k in range(count)]
 
 
@@ -62,21 +65,22 @@ def symmetric(graph: PlainGraph, d: Array) -> List[Array]:
     """Returns drawings with a rotation or a mirror, as far as the graph has such symmetries."""
     n, pairs = graph.order, graph.pairs
     turns, mirrors = turns_and_mirrors(graph)
+    seeds, most = (_SEEDS, 8) if n <= _MANY else (_FEW_SEEDS, 4)
     found: List[Array] = []
     for k in sorted(turns, reverse=True)[:5]:
         listed = turns[k]
         starts = []
         for walks in listed[:: max(1, len(listed) // 3)][:3]:
-            if n % k == 0 and n // k <= 4 and n <= 40:
+            if n % k == 0 and n // k <= 4 and n <= _MANY:
                 for step in coprime(k)[:4]:
                     turned = [[w[i * step % k] for i in range(len(w))] for w in walks]
                     found.append(one_circle(n, pairs, turned, k))
             for step in coprime(k)[:3]:
-                starts += [rings(n, walks, k, step, seed) for seed in range(_SEEDS)]
-        for p in _promising(_distinct(majorized(starts, d, 120), pairs), pairs, 8):
+                starts += [rings(n, walks, k, step, seed) for seed in range(seeds)]
+        for p in _promising(_distinct(majorized(starts, d, 120), pairs), pairs, most):
             found += [p, *snapped(p, k)]
     some = mirrors[:2] + mirrors[-2:] if len(mirrors) > 4 else mirrors
-    starts = [mirrored(n, walks, seed) for walks in some for seed in range(_SEEDS)]
+    starts = [mirrored(n, walks, seed) for walks in some for seed in range(seeds)]
     return found + _distinct(majorized(starts, d, 120), pairs)
 
 

@@ -44,30 +44,32 @@ class _Search:
                     self.order.append(w)
         place = {v: k for k, v in enumerate(self.order)}
         self.known = [[w for w in self.near[v] if place[w] < place[v]] for v in self.order]
+        self.listed = [sorted(near) for near in self.near]
+        self.bits = [sum(1 << w for w in near) for near in self.near]
 
     def from_root(self, image: int, budget: int, most: int) -> List[Permutation]:
         """Automorphisms that map the root to this vertex."""
         self.left, self.most = budget, most
         self.found: List[Permutation] = []
-        self._extend(1, {self.root: image}, {image})
+        self._extend(1, {self.root: image}, 1 << image)
         return self.found
 
-    def _extend(self, k: int, image: Dict[int, int], used: Set[int]) -> None:
+    def _extend(self, k: int, image: Dict[int, int], used: int) -> None:
         if k == len(self.order):
             self.found.append([image[v] for v in range(k)])
             return
-        v, known = self.order[k], self.known[k]
-        for x in sorted(self.near[image[self.before[v]]] - used):
+        v, wanted = self.order[k], 0
+        for w in self.known[k]:
+            wanted |= 1 << image[w]
+        for x in self.listed[image[self.before[v]]]:
+            if used >> x & 1:
+                continue
             if self.left <= 0 or len(self.found) >= self.most:
                 return
             self.left -= 1
-            fits = self.colour[x] == self.colour[v] and len(self.near[x] & used) == len(known)
-            if fits and all(image[w] in self.near[x] for w in known):
+            if self.colour[x] == self.colour[v] and self.bits[x] & used == wanted:
                 image[v] = x
-                used.add(x)
-                self._extend(k + 1, image, used)
-                used.remove(x)
-                del image[v]
+                self._extend(k + 1, image, used | 1 << x)
 
 
 def refined(graph: PlainGraph) -> List[int]:
