@@ -12,6 +12,11 @@ law of moves shows to be a derivation is judged from nothing (`step` of `tree_ch
 
 *Walks.* Each walk down a tree makes the partitions on its way: that of the check, that of the moves, and that of the leaves which a
 report lists. Nothing keeps the partition of an inner node.
+
+*Ears.* Of the last steps of an ear decomposition it is asked each time whether what they leave has a perfect matching; where they leave
+no vertex, this is one question, and its answer takes no search (`asking.rt` of `ear_core`).
+
+*First edges.* A stage of one edge is the same in two graphs of a list that have as many vertices and begin with the same edge.
 """
 
 # An exception has the fact and why, and below it a line for each call: with which graph how often more.
@@ -106,6 +111,10 @@ partition: walks
     replay Q switch mm 1,2,3,4,5 8: cycle10 3
     replay Q switch mm 6 9: cycle10 8
     replay Q rotate mm/switch m 6 8: cycle10 5
+matching: ears
+    mcg6 ears: list 2
+row: first edges
+    mcg6 ears: list 2
 matching: refused cuts; two trees that part; moves
     check loose: cycle8 1, prism 1, petersen 1, cube 1
     compare loose A: cycle8 1

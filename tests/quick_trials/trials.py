@@ -196,5 +196,7 @@ def trials(seed):
         found["mcg"].append(Trial("calls of mcg", f"call {number} of seed {seed}", words, files, judged(words, files)))
     for number in range(LISTS):
         words, data = draw.choice(judge_lists.QUERIES), judge_lists.drawn_list(draw)
+        # `rt try --cases` ends each output with a line end, and `select` keeps those of the list
+        data += b"" if data.endswith(b"\n") else b"\n"
         found["mcg6"].append(Trial("calls of mcg6", f"list {number} of seed {seed}", words, [], judged_list(words, data), data))
     return found

@@ -43,6 +43,7 @@ pub mod ExtendableGraphs
 pub mod FarkasLemma
 pub mod FilesOfReads
 pub mod FirstSeparated
+pub mod FlatWeights
 pub mod FractionalBounds
 pub mod FractionalColourings
 pub mod HetyeiEars
@@ -75,10 +76,12 @@ pub mod OpenParts
 pub mod OutcomesExist
 pub mod PartitionSides
 pub mod Partners
+pub mod PairingsRead
 pub mod PickedDerivations
 pub mod PlainDecompositions
 pub mod Pockets
 pub mod PocketContractions
+pub mod Potentials
 pub mod PocketShelters
 pub mod EvenPockets
 pub mod QuotientCounts
@@ -95,6 +98,7 @@ pub mod SearchTests
 pub mod Separated
 pub mod SeparatingCuts
 pub mod SetsRead
+pub mod ShortPairings
 pub mod SidesAcrossCuts
 pub mod StableSets
 pub mod SmallerPockets

@@ -19,7 +19,7 @@ use Rattle.report_text.specs.declared.structures.Structure.{Structure}
 use Rattle.tree_check.specs.from_tight_cuts.Common.{Candidate}
 use Rattle.tree_core.proofs.Common.{tight-shores, IsDerivation, leaves, Shape}
 use Rattle.bench_tasks.specs.from_decomposer.Common.{order_named}
-use Rattle.bench_tasks.specs.Common.{OnTrees, decompose_in, All, Loaded, and_then, graph_file, loaded_as, on_picks, on_trees, pick_file, picks_given, trees_given, Task}
+use Rattle.bench_tasks.specs.Common.{OnTrees, decompose_in, All, Loaded, and_then, graph_file, loaded_as, on_picks, on_trees, pick_file, picks_given, tree_file, tree_given, trees_given, Task}
 use Rattle.bench_tasks.specs.Tasks as task
 use Rattle.bench_tasks.specs.declared.verbs.GraphVerb.TheVariants.{Analyse, Decompose, Ears}
 use Rattle.bench_tasks.specs.declared.verbs.PicksVerb.TheVariants.{DecomposeBy}
@@ -34,8 +34,10 @@ use Rattle.bench_top.proofs.Completeness.{done-given}
 use Rattle.bench_top.proofs.TextsStand.{stands-ears}
 use Rattle.theorems.proofs.DisjointEars.{list_disjoint}
 use Rattle.theorems.proofs.KindsRead.{kind-read}
+use Rattle.theorems.proofs.OutcomesExist.{made-of, then-of}
 use Rattle.theorems.proofs.PlainDecompositions.{pairing-words, tree-words}
 use Rattle.theorems.proofs.SetsRead.{a-read, c-read, d-read}
+use Rattle.theorems.proofs.ShortPairings.{report-read}
 use Rattle.theorems.specs.Outcomes.{TellsDecomposition, TellsEars, TellsKind, TellsPairing, TellsScript, TellsSets}
 
 graph-read : (files : List NamedFile) (graph : List ℕ) (named : NamedGraph) → graph_file files graph ≡ All named → IsRead named.graph
@@ -158,16 +160,28 @@ scripted named s t status output done (inr (inl first)) = absurd (never status d
 scripted named s t status output done (inr (inr (inl second))) = absurd (never status done second.1.negative)
 scripted named s t status output done (inr (inr (inr not_covered))) = absurd (never status done not_covered.negative)
 
+-- the graph of two trees
+pair-read : (files : List NamedFile) (graph first second : List ℕ) (given : NamedGraph × (Shape × Shape)) → trees_given files graph first second ≡ All given → IsRead given.0.graph
+pair-read files graph first second given e =
+    let a = then-of (tree_given files graph first) (λ held. loaded_as (λ t. (held.0, (held.1, t))) (tree_file files 3 second held.0.graph.order)) given e in
+    let b = made-of (λ t. (a.0.0, (a.0.1, t))) (tree_file files 3 second a.0.0.graph.order) given a.2 in
+    let c = then-of (graph_file files graph) (λ named. loaded_as (λ t. (named, t)) (tree_file files 2 first named.graph.order)) a.0 a.1 in
+    let d = made-of (λ t. (c.0, t)) (tree_file files 2 first c.0.graph.order) a.0 c.2 in
+    let read = graph-read files graph c.0 c.1 in
+    subst (λ (v : NamedGraph × (Shape × Shape)). IsRead v.0.graph) b.2 (subst (λ (h : NamedGraph × Shape). IsRead h.0.graph) d.2 read)
+
 pub told-pairing : (files : List NamedFile) (graph first second : List ℕ) (named : NamedGraph) (s t : Shape) (status : Status) (output : List ℕ) → trees_given files graph first second ≡ All (named, (s, t)) → IsDerivation named.graph s → IsDerivation named.graph t → Outcome (codes "compare" ∷ graph ∷ first ∷ second ∷ []) files status output → (status ≡ Done) × TellsPairing named.graph s t output
 told-pairing files graph first second named s t status output held ds dt gives =
     let done = (done-given files (OnTrees Compare graph first second) (task.OnTrees Compare named s t) status output (ap (loaded_as (on_trees Compare)) held) gives).1 (ds, dt) in
-    let r = compared named s t status output done (of_held (on_trees Compare) (trees_given files graph first second) (named, (s, t)) status output held gives) in (
+    let r = compared named s t status output done (of_held (on_trees Compare) (trees_given files graph first second) (named, (s, t)) status output held gives) in
+    let read = pair-read files graph first second (named, (s, t)) held in (
       done,
       record {
         maps = r.maps;
         paired = pairing-words named.graph (leaves named.graph.order s) (leaves named.graph.order t) r.maps r.paired;
         moves = r.moves;
         turns = r.script.turns;
+        reads = report-read named.graph read.ends read.vertices s t r.moves r.script r.maps r.paired output r.text;
         text = r.text;
       },
     )

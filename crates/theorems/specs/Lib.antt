@@ -13,3 +13,4 @@ pub mod Preorder
 pub mod RegularGraphs
 pub mod Separating
 pub mod TightCuts
+pub mod Weights

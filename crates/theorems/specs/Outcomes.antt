@@ -2,7 +2,7 @@
 -- tight cut decomposition, a pairing of the leaves of two decompositions, the kind of a graph, an
 -- ear decomposition, a script of moves; and what a run read and wrote.
 -- Stated by: theorems.
-use Rattle.std.specs.Prelude.{◌≡◌, ◌↔◌, ◌++◌, ℕ, List, [], ◌∷◌, All, Some, None, false, length, drop, map, if◌then◌else◌, codes, Option, Ok}
+use Rattle.std.specs.Prelude.{◌≡◌, ◌↔◌, ◌++◌, ℕ, List, [], ◌∷◌, All, Some, None, false, length, decimal, drop, flat_map, map, if◌then◌else◌, codes, Option, Ok}
 use Rattle.std.specs.List.{AllByRecursion}
 use Rattle.std.specs.Option.{ForSome}
 use Rattle.bench_top.specs.from_outside.Common.{Answer, AnswersInTurn, OpenState, PrintState, named_texts}
@@ -15,11 +15,12 @@ use Rattle.tree_core.specs.Common.{IsDerivation, IsTightShore, PlainLeafMap, lea
 use Rattle.move_text.specs.from_tree_text.Common.{tree_format}
 use Rattle.graph_core.specs.from_line_text.Common.{Stands, begin_with, lines_of as text_lines, numbers_of, words_of}
 use Rattle.tree_check.specs.from_move_laws.Common.{image}
-use Rattle.move_text.specs.Common.{move_format}
+use Rattle.move_text.specs.Common.{move_format, move_words}
 use Rattle.ear_text.specs.from_ear_core.Common.{IsEarList, IsSingle, IsUnrefinable, PlainEars, TakesSingles}
 use Rattle.ear_text.specs.EarFormat.{ear_format}
 use Rattle.report_text.specs.Common.{analysis_text, kind_word, pairing_text, shore_of}
 use Rattle.report_text.specs.declared.analyses.AnalysisLines.{AnalysisLines}
+use Rattle.report_text.specs.declared.comparisons.MapLine.{MapLine}
 use Rattle.report_text.specs.declared.structures.Structure.{Structure}
 use Rattle.bench_tasks.specs.Common.{pick_file}
 use Rattle.bench_tasks.specs.Common as loading
@@ -66,14 +67,30 @@ pub record TellsDecomposition (g : Graph) (output : List ℕ) : Type 0 where
   pub tight : All (IsTightShore g) (shores tree)
   pub stands : Stands (tree_format g.order) output tree
 
+-- the lines of the blocks of a leaf, cut into words: each block by its name, and its image
+abbrev pub image_words : List ℕ → List ℕ → List (List (List ℕ))
+image_words [] images = []
+image_words (name ∷ names) [] = []
+image_words (name ∷ names) (image ∷ images) = (codes "map" ∷ decimal name ∷ codes "to" ∷ decimal image ∷ []) ∷ image_words names images
+
+-- the lines of a leaf, cut into words: its partner, and the images of its blocks
+abbrev pub leaf_words : MapLine → List (List (List ℕ))
+leaf_words line = (codes "leaf" ∷ decimal line.leaf ∷ codes "with" ∷ decimal line.partner ∷ []) ∷ image_words line.names line.images
+
+-- the lines of a pairing, cut into words: the counts, the moves, and the leaves
+abbrev pub pairing_words : List PlainMove → List MapLine → List (List (List ℕ))
+pairing_words moves maps = (codes "same" ∷ codes "leaves" ∷ decimal (length maps) ∷ codes "moves" ∷ decimal (length moves) ∷ []) ∷ (map (λ m. codes "move" ∷ move_words m) moves ++ flat_map leaf_words maps)
+
 -- the output of `compare` gives a one-to-one pairing of the leaves of two derivations, with
 -- bijections that preserve adjacency, and moves that turn the first derivation through
--- derivations into the second
+-- derivations into the second; its lines, cut into words, are the counts, these moves, and for
+-- each leaf its partner and the images of its blocks
 pub record TellsPairing (g : Graph) (s t : Shape) (output : List ℕ) : Type 0 where
   pub maps : List PlainLeafMap
   pub paired : PairsLeaves g (leaves g.order s) (leaves g.order t) (λ i. (map_at maps i).to) (λ i. image (leaf_at (leaves g.order t) (map_at maps i).to) (map_at maps i).images)
   pub moves : List PlainMove
   pub turns : TurnsThrough g s moves t
+  pub reads : map words_of (text_lines output) ≡ pairing_words moves (map_lines_of 0 (leaves g.order s) maps)
   pub text : output ≡ pairing_text moves (map_lines_of 0 (leaves g.order s) maps)
 
 -- the first line of the text that begins with the word `kind` has behind it the word of the kind, and

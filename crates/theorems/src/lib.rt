@@ -8,8 +8,9 @@
 //! and laminar families), `decompositions` (their uniqueness, and the numbers of bricks and
 //! braces), `bricks`, `braces`, `extendable` (2-extendable graphs), `regular_graphs`,
 //! `inequalities` (Farkas' lemma), `separating` (separating cuts), `ears`, `weights` (weighted
-//! matchings), `outcomes` (what the program reports), and `program`, an appendix on definitions of
-//! the program. What a chapter defines beyond the lower crates is in a file of `specs/`.
+//! matchings, potentials), `outcomes` (what the program reports), and `program`, an appendix on
+//! definitions of the program. What a chapter defines beyond the lower crates is in a file of
+//! `specs/`.
 //!
 //! No part of the program depends on this crate. Sources: Lovász and Plummer, "Matching Theory"
 //! (1986); Lucchesi and Murty, "Perfect Matchings" (2024).
@@ -59,4 +60,4 @@ pub use program::{
 };
 pub use regular_graphs::{cubic_law, fractional_law, regular_law};
 pub use separating::separating_law;
-pub use weights::matching_duality_law;
+pub use weights::{matching_duality_law, potential_law};

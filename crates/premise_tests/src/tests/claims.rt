@@ -14,6 +14,8 @@ pub enum Claim {
     Sets(&'static [OfSet], &'static [&'static [u32]]),
     /// The set of edges has the property.
     Edges(OfEdges, &'static [u32]),
+    /// The weight that is 1 at these edges and 0 at the others has the properties.
+    Weight(&'static [OfWeight], &'static [u32]),
     /// The two vertices are equivalent: they are one, or deleting them leaves no perfect matching.
     Equivalent(u32, u32),
     /// These are the vertices that are equivalent to the first.
@@ -83,6 +85,8 @@ pub enum Property {
     Allowed,
     /// It has a nontrivial tight cut.
     Composite,
+    /// It has none.
+    Uncut,
     Bicritical,
     /// It has no cut pair.
     Unseparated,
@@ -197,4 +201,16 @@ pub enum OfEdges {
     Stage,
     /// The graph without its vertices has a perfect matching.
     Conformal,
+}
+
+/// What a weight of the edges may be.
+pub enum OfWeight {
+    /// It is the same on all perfect matchings.
+    Flat,
+    /// Integers at the vertices add up, at the two ends of each edge, to twice its weight.
+    Potential,
+    /// They add up to the weight.
+    WholePotential,
+    /// They add up to twice the weight at each edge that is in no tight cut.
+    PotentialOffCuts,
 }

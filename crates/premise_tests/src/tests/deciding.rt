@@ -1,8 +1,9 @@
 //! Whether a claim holds of a graph.
 
-use super::claims::{Claim, OfEdges, OfNumber, OfSet, Property};
+use super::claims::{Claim, OfEdges, OfNumber, OfSet, OfWeight, Property};
 use super::decompositions::{Tally, count_both, count_leaves, is_maximal_laminar};
 use super::pair_graph::PairGraph;
+use super::potentials::Sums;
 use super::sets::{greatest, is_odd, is_part, meets, one, set_of};
 use std::alloc::{AllocError as Memory, Global};
 
@@ -22,6 +23,14 @@ impl Claim {
             Claim::Sets(properties, sets) => {
                 for set in *sets {
                     if !are_so(alloc, g, properties, set, holds)? {
+                        return Ok(false);
+                    }
+                }
+                Ok(true)
+            }
+            Claim::Weight(properties, edges) => {
+                for property in *properties {
+                    if property.holds(alloc, g, set_of(edges))? != holds {
                         return Ok(false);
                     }
                 }
@@ -116,6 +125,7 @@ impl Property {
             Property::Loopless => !g.has_loop(),
             Property::Allowed => g.are_allowed(true),
             Property::Composite => g.has_tight_cut(0, 0),
+            Property::Uncut => !g.has_tight_cut(0, 0),
             Property::Bicritical => g.is_bicritical(),
             Property::Unseparated => g.is_connected_without(2),
             Property::ThreeConnected => g.is_three_connected(),
@@ -204,6 +214,19 @@ impl OfEdges {
             OfEdges::Stage => g.is_stage(edges),
             OfEdges::Conformal => g.has_perfect(g.met_by(edges)),
         }
+    }
+}
+
+impl OfWeight {
+    fn holds(&self, alloc: Global, g: &PairGraph, ones: u32) -> Result<bool, Memory> {
+        let sums = match self {
+            OfWeight::Flat => return Ok(g.is_flat(ones)),
+            OfWeight::Potential => (2, g.all_edges()),
+            OfWeight::WholePotential => (1, g.all_edges()),
+            OfWeight::PotentialOffCuts => (2, g.off_cuts()),
+        };
+        let (times, asked) = sums;
+        g.has_potential(alloc, &Sums { ones, times, asked })
     }
 }
 

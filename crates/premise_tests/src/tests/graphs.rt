@@ -22,6 +22,8 @@ pub const K2_WITH_LOOP: Given = (2, &[12, 11]);
 
 pub const K2_WITH_LOOPS: Given = (2, &[12, 11, 22]);
 
+pub const K2_WITH_TWO_LOOPS: Given = (2, &[12, 11, 11]);
+
 pub const ONE_LOOP: Given = (2, &[11]);
 
 pub const EDGE_AND_VERTEX: Given = (3, &[12]);
@@ -54,6 +56,9 @@ pub const THREE_EDGES: Given = (6, &[12, 34, 56]);
 pub const TRIPLE_EDGES: Given = (4, &[12, 12, 12, 34, 34, 34]);
 
 pub const FOUR_CYCLE: Given = (4, &[12, 23, 34, 41]);
+
+/// The cycle of four vertices, and the vertex 5.
+pub const CYCLE_AND_VERTEX: Given = (5, &[12, 23, 34, 41]);
 
 pub const CHORDED_CYCLE: Given = (4, &[12, 23, 34, 41, 13]);
 
