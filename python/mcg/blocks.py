@@ -3,6 +3,7 @@ from __future__ import annotations
 
 import os
 import resource
+import select
 import subprocess
 import time
 from collections import deque
@@ -70,6 +71,12 @@ class Block(Stream):
         except ChildProcessError:
             return False
 
+    @property
+    def pid(self) -> int:
+        """The number of the process, which has been started."""
+        assert self._process
+        return self._process.pid
+
     def wait(self) -> float:
         """Waits until the process has ended, and returns the seconds of processor time that it took.
         If other threads wait for processes of theirs, those can be counted too."""
@@ -126,20 +133,38 @@ def at_once(
     is_last, most = False, FIRST_LINES
     try:
         while begun or not is_last:
-            running = sum(it.block.is_running() for it in begun)
-            has_room = not is_last and running < processes and len(begun) < 2 * processes
+            running = [it.block for it in begun if it.block.is_running()]
+            has_room = not is_last and len(running) < processes and len(begun) < 2 * processes
             if has_room:
                 begun.append(BlockSession(words, rest, skipped, before))
                 begun[-1].block.start(most)
                 before += begun[-1].count
                 is_last = begun[-1].block.is_last
-            if not has_room or not begun[0].block.is_running():
+            elif begun[0].block in running:
+                _wait_for_one(running)
+            if not begun[0].block.is_running():
                 most = _length(most, begun[0].count, begun[0].block.wait())
                 yield begun[0]
                 begun.popleft().block.close()
     finally:
         for it in begun:
             it.block.close()
+
+
+def _wait_for_one(blocks: Sequence[Block]) -> None:
+    """Waits until one of the processes has ended. Where the system cannot say so, until the first."""
+    opened: List[int] = []
+    poll = select.poll()
+    try:
+        for it in blocks:
+            opened.append(os.pidfd_open(it.pid))
+            poll.register(opened[-1], select.POLLIN)
+        poll.poll()
+    except (AttributeError, OSError):
+        blocks[0].wait()
+    finally:
+        for descriptor in opened:
+            os.close(descriptor)
 
 
 def _children() -> float:

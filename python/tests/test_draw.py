@@ -1,6 +1,7 @@
 """Pictures of graphs: what is on the paper, in each of the languages, and what is said when something is missing."""
 import math
 import os
+import random
 import re
 import subprocess
 import sys
@@ -20,7 +21,9 @@ from draw_support import (
     named_graphs,
     needs_axes,
     needs_layout,
+    numbered,
     petersen,
+    planar_graph,
     random_graphs,
 )
 from support import LABELS, ROOT, brute_of, drawn, mcg
@@ -193,9 +196,11 @@ class TestLayout(unittest.TestCase):
         self.assertEqual(self.faultless(random_graphs(12), ("auto",)), 12)
 
     def test_large_graphs_in_time(self):
-        graphs = {"cube": cube(5), "composite": grown(1, 16), "fullerene": named_graphs()["fullerene"]}
+        graphs = {"cube": cube(5), "composite": grown(1, 16), "fullerene": named_graphs()["fullerene"], "planar": mcg.Graph(planar_graph(64, random.Random(2)))}
+        graphs["Möbius ladder"] = numbered([(k + 1, (k + 1) % 64 + 1) for k in range(64)] + [(k + 1, k + 33) for k in range(32)])
+        graphs["the cube whose drawings are tangles"] = cube(6)
         start = time.process_time()
-        self.assertEqual(self.faultless(graphs.items(), ("auto",)), 3)
+        self.assertEqual(self.faultless(graphs.items(), ("auto",)), 6)
         self.assertLess(time.process_time() - start, 12)  # one second each on an idle machine
 
     def test_the_known_drawing_of_the_petersen_graph(self):

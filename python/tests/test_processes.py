@@ -118,6 +118,25 @@ class Processes(unittest.TestCase):
         self.assertLessEqual(max(seen), 6)
         self.assertGreaterEqual(max(seen), 2)
 
+    def begun_before_the_first_result(self):
+        """How many processes have begun when the first result comes, of two at a time, if the first takes half a second."""
+        with tempfile.TemporaryDirectory() as folder:
+            real, log = os.environ["MCG6"], os.path.join(folder, "log")
+            body = f'echo >>"{log}"; if head -n 1 </dev/stdin | grep -q "A_"; then sleep 0.5; fi; exec "{real}" "$@"'
+            with program_of(folder, body), mock.patch("mcg.blocks.FIRST_LINES", 2), mock.patch("mcg.blocks.MOST_LINES", 2):
+                found = mcg.kinds(["A_"] * 2 + ["C~"] * 20, processes=2)
+                first = next(found)
+                with open(log) as file:
+                    begun = len(file.readlines())
+                self.assertEqual([it.kind for it in [first, *found]], ["brace"] * 2 + ["brick"] * 20)
+        return begun
+
+    def test_no_processor_waits_for_the_first(self):
+        """While the first process still runs, others begin; where the system cannot say which has ended, they wait for it."""
+        self.assertEqual(self.begun_before_the_first_result(), 4)
+        with mock.patch("os.pidfd_open", side_effect=OSError("no such call")):
+            self.assertEqual(self.begun_before_the_first_result(), 2)
+
     def test_a_program_that_dies(self):
         """In the third block: the results of the first two come first, and nothing is left running."""
         with tempfile.TemporaryDirectory() as folder:

@@ -44,9 +44,9 @@ def equation(graph: PlainGraph, named: NamedSet) -> str:
     return f"{runs(named.name)} = all but {braces(graph, rest)}"
 
 
-def drawing(scene: Scene, title: str, least: float = 0.0) -> str:
+def drawing(scene: Scene, title: str, least: float = 0.0, scale: float = SCALE) -> str:
     """Returns a scene as an element of the page."""
-    return to_svg(scene, title, is_card=False, margin=6.0, scale=SCALE, least=least).strip()
+    return to_svg(scene, title, is_card=False, margin=6.0, scale=scale, least=least).strip()
 
 
 def table(rows: Sequence[Tuple[str, str]]) -> str:

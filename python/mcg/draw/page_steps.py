@@ -8,7 +8,7 @@ from . import style
 from .comparisons import moving, node_at, shore_of, told, upper_path
 from .ears import Panels
 from .graph_scene import draw_graph
-from .hypertext import drawing, equation, joined, listed, runs, safe
+from .hypertext import SCALE, drawing, equation, joined, listed, runs, safe
 from .nodes import Names, Node, leaf_marks, smaller
 from .outlines import outline
 from .panels import TreeStyle, node_look
@@ -19,12 +19,15 @@ from .stages import Stage
 from .style import Point
 from .tree_places import follow_to
 
+_WIDE = 460.0  # to which the picture of a step grows, twice at most: one of them is seen at a time
+
 
 def ears_part(panels: Panels) -> str:
     """Returns the steps of an ear decomposition."""
     steps = []
     key = ", ".join(f"<b>{safe(a)}</b> {safe(b)}" for a, b in panels.key)
     box = panels.box
+    scale = min(2 * SCALE, max(SCALE, _WIDE / max(1.0, box[2] - box[0])))
     for at, scene in enumerate(panels.scenes):
         scene.box = box
         names = panels.steps[at].told(panels.graph)
@@ -33,7 +36,7 @@ def ears_part(panels: Panels) -> str:
         )
         kind = ("single", "double")[len(names) - 1]
         words = f"adds the {kind} ear {ears}" if at else f"with the edge {ears}"
-        steps.append(_step(f"step {at}" if at else "start", words, drawing(scene, f"step {at}")))
+        steps.append(_step(f"step {at}" if at else "start", words, drawing(scene, f"step {at}", scale=scale)))
     return _steps("step", steps) + (f'<p class="small">{key}</p>' if key else "")
 
 

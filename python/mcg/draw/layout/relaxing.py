@@ -158,13 +158,14 @@ class _Forces:
         """The nearest place on each edge for each vertex, the way from there, and how far it is."""
         x, y, ax, ay, dx, dy, square = given
         wx, wy = x[:, :, None] - ax[:, None], y[:, :, None] - ay[:, None]
-        t, other = wx * (dx / square)[:, None], wy * (dy / square)[:, None]
+        t: Array = wx * (dx / square)[:, None]
+        other: Array = wy * (dy / square)[:, None]
         t += other
         np.maximum(t, 0.0, out=t)
         np.minimum(t, 1.0, out=t)
         wx -= np.multiply(t, dx[:, None], out=other)
         wy -= np.multiply(t, dy[:, None], out=other)
-        far = wx * wx
+        far: Array = np.multiply(wx, wx)
         far += np.multiply(wy, wy, out=other)
         np.sqrt(far, out=far)
         far += self.own
@@ -199,7 +200,11 @@ class _Pushes:
     def of(self, push: Array) -> Tuple[Array, Array, Array]:
         """Returns the force on each vertex, on each edge, and the part of this on its second end."""
         k, n, m = self.shape
-        on_vertex = np.bincount(self.rows, push, k * n).reshape(k, n)
-        on_edge = np.bincount(self.edges, push, k * m).reshape(k, m)
-        at_second = np.bincount(self.edges, push * self.t, k * m).reshape(k, m)
-        return on_vertex, on_edge, at_second
+        on_edge, at_second = (_sums(self.edges, it, (k, m)) for it in (push, push * self.t))
+        return _sums(self.rows, push, (k, n)), on_edge, at_second
+
+
+def _sums(places: Integers, values: Array, shape: Tuple[int, int]) -> Array:
+    """The sums of the values at each place, the places counted row by row."""
+    found = np.bincount(places, values, shape[0] * shape[1])
+    return np.asarray(found, dtype=np.float64).reshape(shape)
