@@ -199,9 +199,9 @@ class TestLayout(unittest.TestCase):
         graphs = {"cube": cube(5), "composite": grown(1, 16), "fullerene": named_graphs()["fullerene"], "planar": mcg.Graph(planar_graph(64, random.Random(2)))}
         graphs["Möbius ladder"] = numbered([(k + 1, (k + 1) % 64 + 1) for k in range(64)] + [(k + 1, k + 33) for k in range(32)])
         graphs["the cube whose drawings are tangles"] = cube(6)
-        start = time.process_time()
+        start = time.thread_time()
         self.assertEqual(self.faultless(graphs.items(), ("auto",)), 6)
-        self.assertLess(time.process_time() - start, 12)  # one second each on an idle machine
+        self.assertLess(time.thread_time() - start, 12)  # one second each on an idle machine; the threads of a matrix library wait busily
 
     def test_the_known_drawing_of_the_petersen_graph(self):
         import numpy
