@@ -1,7 +1,7 @@
 -- Ear lists (Lovász and Plummer, "Matching Theory"), over plain data: the first stage is one
 -- edge, each step adds one ear or two to a matching covered stage so that the next is matching
 -- covered, and the last stage holds all edges.
--- Stated by: ear_core, ear_text, bench_tasks, bench_reports, theorems.
+-- Stated by: ear_core, ear_text, mcg6_lines, bench_tasks, bench_reports, theorems.
 -- Used by: bench_outcomes, bench_top.
 use Rattle.std.specs.Prelude.{◌≡◌, ◌<◌, ℕ, true, List, [], ◌∷◌, All, length}
 use Rattle.std.specs.List.{AllByRecursion}

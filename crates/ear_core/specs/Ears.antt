@@ -1,6 +1,6 @@
 -- Ears of a stage f: paths of odd length outside f between two vertices of f, no inner vertex of
 -- which f meets.
--- Stated by: ear_core, theorems.
+-- Stated by: ear_core, mcg6_lines, theorems.
 use Rattle.std.specs.Prelude.{◌≡◌, ◌≢◌, ℕ, ◌≤◌, true, false, List, [], ◌∷◌, ◌==◌, ◌||◌, cond, length}
 use Rattle.graph_core.specs.from_counting.Common.{Within, is_odd, Set, mem, times}
 use Rattle.graph_core.specs.Common.{Graph, size, first_end, second_end}

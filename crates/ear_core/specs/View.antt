@@ -1,5 +1,5 @@
 -- How the code's ear lists and judgements are seen, as plain data.
--- Stated by: ear_core, ear_text, bench_tasks, bench_reports.
+-- Stated by: ear_core, ear_text, mcg6_lines, bench_tasks, bench_reports.
 use Rattle.std.specs.Prelude.{ℕ, map, Option, Some, None}
 use Rattle.ear_core.specs.EarLists.{PlainEar, PlainStep, one, two, PlainEars}
 use Rattle.ear_core.specs.EarTests.{PlainWhy, not_path, even_length, bad_ends, inner_on_stage, edge_used, stage_not_covered, ends_early}

@@ -3,12 +3,10 @@
 //!
 //! A message is a list of pieces (`MessagePiece`): a text, a number, or bytes of the outside, shown
 //! so that they can stand in a line. `say` writes one to a sink: whole, or if the sink fails a
-//! beginning of it (`Says`). Each function `say_..` says its text, and takes no memory. The texts,
-//! in specs/: `Usage` has the tables of commands, `Answers` what a program answers at once,
-//! `Faults` the kinds of faults in a file, with the headers and the limits of the formats,
-//! `Reasons` why a file cannot be read, `Unmatched` why words match no row of a table, `Refused`
-//! what a refusal means and where the error is; `Unread`, `Messages` and `ListMessages` have one
-//! text for each other ending that needs words.
+//! beginning of it (`Says`). Each function `say_..` says its text, and takes no memory.
+//!
+//! In specs/, `Texts` lists all constant texts with their names; the other files put the messages
+//! together from them, one file for each ending that needs words.
 //!
 //! Depends on `line_text` for the lines of a file, on `outside` for the sinks and for the reason of
 //! a failed read, on `arguments` for why arguments are not read, and on `refusals` and `vset_core`

@@ -1,5 +1,5 @@
 -- How the code's candidates are seen.
--- Stated by: tight_cuts, decomposer. Used by: mcg6_lines, theorems, example_order.
+-- Stated by: tight_cuts, decomposer, mcg6_lines. Used by: theorems, example_order.
 use Rattle.tight_cuts.specs.Candidates.{Candidate, Origin, Barrier, Separation, Flow}
 use Rattle.tight_cuts.specs.declared.candidate.Candidate.{Candidate as StoredCandidate}
 use Rattle.tight_cuts.specs.declared.candidate.Origin.{Origin as StoredOrigin}
