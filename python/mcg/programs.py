@@ -26,11 +26,13 @@ DONE, NEGATIVE, BAD_INPUT, NO_MEMORY, NO_PROGRAM = 0, 1, 4, 6, 127
 
 
 def program(name: str) -> str:
-    """Returns the path of `mcg` or `mcg6`: what the variable `MCG` or `MCG6` says, or else what is
-    on the `PATH`. Raises `ProgramMissing`."""
+    """Returns the path of `mcg` or `mcg6`: what the variable `MCG` or `MCG6` says, or else the
+    program that came with the package in a wheel, or else what is on the `PATH`. Raises
+    `ProgramMissing`."""
     variable = name.upper()
     given = os.environ.get(variable)
-    found = shutil.which(given or name)
+    own = os.path.join(os.path.dirname(os.path.abspath(__file__)), "bin", name)
+    found = shutil.which(given) if given else shutil.which(own) or shutil.which(name)
     if found:
         return os.path.abspath(found)
     if given:
