@@ -1,7 +1,7 @@
 """Perfect matchings, tight cut decompositions and ear decompositions of graphs.
 
-The functions call the formally verified programs `mcg` and `mcg6`, found by the environment
-variables `MCG` and `MCG6` or else on the PATH, and give their reports in your own labels:
+The functions call the formally verified programs `mcg` and `mcg6`, found through the environment
+variables `MCG` and `MCG6`, in the wheel, or on the PATH, and give their reports in your own labels:
 
     >>> import mcg
     >>> edges = [("a", "b"), ("a", "c"), ("a", "d"), ("b", "c"), ("b", "d"), ("c", "d")]
