@@ -6,6 +6,8 @@ from unittest import mock
 
 from support import mcg, program_of
 
+from mcg import programs
+
 HEXAGON = [(a, b) for a, b in zip("abcdef", "bcdefa")]
 TREE = mcg.Cut(frozenset("abc"), mcg.Leaf(), mcg.Leaf())
 CALLS = {
@@ -65,6 +67,23 @@ class OneGraph(unittest.TestCase):
         for given in ({"MCG": "/nowhere/mcg"}, {"MCG": "", "PATH": "/nowhere"}):
             with mock.patch.dict(os.environ, given), self.assertRaises(mcg.ProgramMissing):
                 mcg.analyse("C~")
+
+    def test_the_program_of_a_wheel(self):
+        """It comes before one on the `PATH`, and after what the variable says."""
+        with tempfile.TemporaryDirectory() as folder:
+            for name in ("bin/mcg", "other/mcg"):
+                os.makedirs(os.path.dirname(f"{folder}/{name}"))
+                with open(f"{folder}/{name}", "w", encoding="utf-8") as file:
+                    file.write("#!/bin/sh\n")
+                os.chmod(f"{folder}/{name}", 0o755)
+            own = mock.patch.object(programs, "__file__", f"{folder}/programs.py")
+            with own, mock.patch.dict(os.environ, {"MCG": "", "PATH": f"{folder}/other"}):
+                self.assertEqual(programs.program("mcg"), f"{folder}/bin/mcg")
+                os.environ["MCG"] = f"{folder}/other/mcg"
+                self.assertEqual(programs.program("mcg"), f"{folder}/other/mcg")
+                os.environ["MCG"] = ""
+                os.remove(f"{folder}/bin/mcg")
+                self.assertEqual(programs.program("mcg"), f"{folder}/other/mcg")
 
     def test_the_text_of_a_file(self):
         """A text that the caller has, and no program wrote, is a bad text."""
