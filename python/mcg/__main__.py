@@ -12,6 +12,7 @@ Status 0: it is written; 1: it could not be made; 2: the command line is wrong; 
 from __future__ import annotations
 
 import argparse
+import importlib.util
 import os
 import sys
 from typing import List, Optional, Tuple
@@ -52,12 +53,12 @@ def main(words: Optional[List[str]] = None) -> int:
 
 def write_page(name: str, output: Optional[str], title: Optional[str]) -> None:
     """Writes the page on a graph."""
-    try:
-        from .draw.pages import page
-    except ImportError as why:
-        raise ImportError(
-            f"a page needs NumPy and NetworkX (Debian: python3-numpy, python3-networkx): {why}"
-        ) from why
+    from .draw.pages import page
+
+    if not all(map(importlib.util.find_spec, ("numpy", "networkx"))):
+        packages = "NumPy and NetworkX (Debian: python3-numpy, python3-networkx)"
+        words = "the vertices are on a circle, and trees in outline"
+        print(f"python3 -m mcg page: without {packages} {words}", file=sys.stderr)
     text, called = read_graph(name)
     made = page(Graph.from_text(text), title or called)
     if output is None or output == "-":

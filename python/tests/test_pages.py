@@ -12,6 +12,7 @@ from html.parser import HTMLParser
 
 from draw_support import example, grown, needs_layout
 from support import ROOT, mcg
+from test_draw import ran
 
 CHROMIUM = shutil.which("chromium")
 DRIVER = shutil.which("chromedriver")
@@ -116,6 +117,31 @@ class TestPage(unittest.TestCase):
             self.assertEqual(sorted(os.listdir(folder)), ["a.html", "b.html"])
             with open(f"{folder}/b.html") as file:
                 self.assertIn("<h1>K4</h1>", file.read())
+
+
+class Bare(unittest.TestCase):
+    """The page without NumPy and NetworkX."""
+
+    def test_everything_is_there(self):
+        """The vertices are on a circle, the tree is in outline, and ears and moves have their steps."""
+        code = f"""
+import mcg
+with open({f"{ROOT}/examples/two_k4.mcg"!r}) as file:
+    page = mcg.draw.page(mcg.Graph.from_text(file.read()))
+print([page.count(it) for it in ("<section", "<svg", 'class="step"', 'class="node"', "<pre>")], "= {{1, 3, 4}}</li>" in page)
+"""
+        self.assertEqual(ran(code, "numpy", "networkx", "matplotlib"), "[5, 9, 7, 0, 5] True\n")
+
+    def test_the_command(self):
+        with tempfile.TemporaryDirectory() as folder:
+            words = ["page", f"{ROOT}/examples/two_k4.mcg", "-o", f"{folder}/a.html"]
+            said = ran(f"from mcg.__main__ import main\nprint(main({words!r}))", "numpy", "networkx")
+            self.assertEqual(said, "0\n")
+            with open(f"{folder}/a.html", encoding="utf-8") as file:
+                self.assertIn("<h1>two_k4.mcg</h1>", file.read())
+
+    def test_graphs_that_are_not_matching_covered(self):
+        self.assertIn("not matching covered", ran("import mcg; print(mcg.draw.page([(1, 2), (2, 3)]))", "numpy", "networkx"))
 
 
 @needs_layout

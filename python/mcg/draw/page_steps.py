@@ -9,15 +9,13 @@ from .comparisons import moving, node_at, shore_of, told, upper_path
 from .ears import Panels
 from .graph_scene import draw_graph
 from .hypertext import SCALE, drawing, equation, joined, listed, runs, safe
+from .needs import laid_out
 from .nodes import Names, Node, leaf_marks, smaller
 from .outlines import outline
-from .panels import TreeStyle, node_look
 from .plain import PlainGraph
 from .scene import Scene
-from .shores import BLUE, RUST, Shore, draw_shores
 from .stages import Stage
 from .style import Point
-from .tree_places import follow_to
 
 _WIDE = 460.0  # to which the picture of a step grows, twice at most: one of them is seen at a time
 
@@ -50,13 +48,19 @@ def _steps(name: str, steps: Sequence[str]) -> str:
 
 
 class MovesPart:
-    """The moves one by one: for each the tree in outline, and the graph at the node that changes."""
+    """The moves one by one: for each the tree in outline, and the graph at the node that changes;
+    without `graphs`, which need a layout, the trees alone."""
 
     def __init__(
-        self, graph: PlainGraph, stages: Sequence[Stage], moves: Sequence[Move], names: Names
+        self,
+        graph: PlainGraph,
+        stages: Sequence[Stage],
+        moves: Sequence[Move],
+        names: Names,
+        graphs: bool = True,
     ) -> None:
         self.graph, self.stages, self.moves, self.names = graph, stages, moves, names
-        self.shared = TreeStyle(graph, names)
+        self.graphs = graphs
         self.known: Dict[FrozenSet[FrozenSet[int]], List[Point]] = {}
 
     def html(self, places: Sequence[Point]) -> str:
@@ -81,7 +85,9 @@ class MovesPart:
         else:
             kind, what = told(self.moves[at], stage.tree, self.names)
             words = f'next, <span class="second">{runs(kind)}</span> {runs(what)}'
-            body += drawing(self._change(at), "the graph at this node, with the shores that change")
+            if self.graphs:
+                title = "the graph at this node, with the shores that change"
+                body += drawing(self._change(at), title)
         return _step(head, words, f'<div class="move">{body}</div>')
 
     def _change(self, at: int) -> Scene:
@@ -90,17 +96,19 @@ class MovesPart:
         move = self.moves[at]
         node = node_at(self.stages[at].tree, upper_path(move))
         after = node_at(self.stages[at + 1].tree, upper_path(move))
-        look = node_look(node, self.shared)
+        panels, shores = laid_out("panels"), laid_out("shores")
+        look = panels.node_look(node, panels.TreeStyle(self.graph, self.names))
         if isinstance(move, Switch):
             for k in self._exchanged(node, after):
                 look.marks[k] = look.marks.get(k, style.PLAIN)._replace(fill=style.EXCHANGED)
         scene = Scene()
-        frame = draw_graph(scene, node.graph, follow_to(node, self.known), look)
-        shores = [
-            Shore(node.inside(shore_of(it)), self.names[shore_of(it)], pen)
-            for it, pen in ((node, BLUE), (after, RUST))
+        places = laid_out("tree_places").follow_to(node, self.known)
+        frame = draw_graph(scene, node.graph, places, look)
+        both = [
+            shores.Shore(node.inside(shore_of(it)), self.names[shore_of(it)], pen)
+            for it, pen in ((node, shores.BLUE), (after, shores.RUST))
         ]
-        draw_shores(scene, frame, shores)
+        shores.draw_shores(scene, frame, both)
         return scene
 
     @staticmethod

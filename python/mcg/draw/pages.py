@@ -4,20 +4,22 @@ Without the script, and on paper, everything is there: the tree opened, all step
 """
 from __future__ import annotations
 
-from typing import List, NamedTuple
+from typing import List, NamedTuple, Sequence, Tuple
 
 from ..graphs import GraphLike
 from . import assets
 from .ears import Panels, steps_of
-from .graphs import count_of, places_of
-from .hypertext import count, safe
-from .nodes import names_of, tree_of
+from .graphs import count_of, on_circle, places_of
+from .hypertext import count, drawing, equation, listed, safe
+from .needs import laid_out
+from .nodes import Names, PlainTree, Set, leaf_marks, names_of, smaller_sets, tree_of
+from .outlines import outline
+from .page_graph import graph_part, summary
 from .page_steps import MovesPart, ears_part
-from .page_tree import TreePart, graph_part, summary
 from .plain import PlainGraph
 from .reports import Reports, reports_of
 from .stages import Stage, stages_of
-from .tree_places import arrange
+from .style import Point
 
 
 class _Part(NamedTuple):
@@ -34,8 +36,9 @@ def page(graph: GraphLike, title: str = "") -> str:
     matching covered graph the tree of its decomposition, its ears step by step, the moves to
     another decomposition one by one, and the reports.
 
-    Raises `ImportError` without NumPy and NetworkX, `BadGraph`, `TooLarge` and the exceptions on
-    programs. A graph with 64 vertices takes about three seconds.
+    Without NumPy and NetworkX, which find places, the vertices are on a circle, and trees are in
+    outline. Raises `BadGraph`, `TooLarge` and the exceptions on programs. A graph with 64 vertices
+    takes about three seconds.
     """
     reports = reports_of(graph)
     plain = PlainGraph.of(reports.graph)
@@ -74,14 +77,14 @@ def _parts(reports: Reports, plain: PlainGraph) -> List[_Part]:
         shores = tree.shores()
     if reports.comparison is not None:
         stages = stages_of(reports.comparison, plain)
-    places = places_of(reports.graph, plain, shores=shores)
+    places, found = _places(reports, plain, shores)
     parts = [_Part("graph", "graph", "The graph", graph_part(reports, plain, places))]
     if tree is not None and reports.ears is not None:
         every = shores + [shore for stage in stages for shore in stage.tree.shores()]
         names = names_of(every, plain.order)
-        arrange(tree, places)
         heading = f"A tight cut decomposition: {summary(reports)}"
-        parts.append(_Part("tree", "decomposition", heading, TreePart(tree, names).html()))
+        body = _tree(tree, names, places) if found else _outlined(tree, names)
+        parts.append(_Part("tree", "decomposition", heading, body))
         steps, double = len(reports.ears.steps), reports.ears.double
         heading = f"An ear decomposition: {count(steps, 'step')}, {double} of them double"
         panels = Panels(plain, steps_of(reports.graph, reports.ears), places)
@@ -89,9 +92,35 @@ def _parts(reports: Reports, plain: PlainGraph) -> List[_Part]:
         if reports.comparison is not None:
             moves = reports.comparison.moves
             heading = f"From this decomposition to another: {count(len(moves), 'move')}"
-            body = MovesPart(plain, stages, moves, names).html(places)
+            body = MovesPart(plain, stages, moves, names, found).html(places)
             parts.append(_Part("moves", "moves", heading, body))
     return [*parts, _Part("reports", "reports", "The reports", _reports(reports))]
+
+
+def _places(
+    reports: Reports, plain: PlainGraph, shores: Sequence[Set]
+) -> Tuple[List[Point], bool]:
+    """The places of the vertices, and whether a layout found them; else they are on a circle."""
+    try:
+        return places_of(reports.graph, plain, shores=shores), True
+    except ImportError:
+        circle = on_circle(reports.graph.vertices)
+        return places_of(reports.graph, plain, circle), False
+
+
+def _tree(tree: PlainTree, names: Names, places: Sequence[Point]) -> str:
+    """The tree with the graph at each node."""
+    laid_out("tree_places").arrange(tree, places)
+    made: str = laid_out("page_tree").TreePart(tree, names).html()
+    return made
+
+
+def _outlined(tree: PlainTree, names: Names) -> str:
+    """The tree in outline, and the sets that its names stand for."""
+    scene = outline(tree, names, leaf_marks(len(tree.leaves)), captions=True)
+    sets = smaller_sets(tree.shores(), tree.whole.order, names)
+    figure = f'<figure>{drawing(scene, "the tree")}</figure>'
+    return figure + listed([equation(tree.whole, it) for it in sets], "sets")
 
 
 def _reports(reports: Reports) -> str:
