@@ -41,9 +41,7 @@ static ROWS: [Row; 5] = [
     },
     Row {
         premises: &["kotzig_lovasz_law: `one`: a nonempty barrier"],
-        without: &[
-            "kotzig_lovasz_law.one: s a ≡ true",
-        ],
+        without: &["kotzig_lovasz_law.one: s a ≡ true"],
         graph: "the hexagon",
         given: HEXAGON,
         holds: &[
@@ -56,9 +54,7 @@ static ROWS: [Row; 5] = [
     },
     Row {
         premises: &["kotzig_lovasz_law: `components`: a nonempty barrier"],
-        without: &[
-            "kotzig_lovasz_law.components: s a ≡ true",
-        ],
+        without: &["kotzig_lovasz_law.components: s a ≡ true"],
         graph: "K2 with the empty barrier",
         given: K2,
         holds: &[Is(&[Elementary]), Set(&[Barrier], &[]), Parts(&[], 1)],
@@ -86,9 +82,7 @@ static ROWS: [Row; 5] = [
     },
     Row {
         premises: &["kotzig_lovasz_law: `elementary`: matching covered"],
-        without: &[
-            "kotzig_lovasz_law.elementary: IsCovered",
-        ],
+        without: &["kotzig_lovasz_law.elementary: IsCovered"],
         graph: "the path 1 2 3 4",
         given: PATH_OF_4,
         holds: &[Set(&[Perfect], &[])],

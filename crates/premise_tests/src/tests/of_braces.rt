@@ -47,9 +47,7 @@ static BRACES: [Row; 5] = [
     // 12 and 56 are in different triangles and do not face each other
     Row {
         premises: &["braces_law: `two_edges`: bipartite"],
-        without: &[
-            "braces_law.two_edges: IsSide",
-        ],
+        without: &["braces_law.two_edges: IsSide"],
         graph: "the prism",
         given: PRISM,
         holds: &[Is(&[Loopless, Covered])],
@@ -60,9 +58,7 @@ static BRACES: [Row; 5] = [
     },
     Row {
         premises: &["braces_law: `neighbourhoods`: no loop"],
-        without: &[
-            "braces_law.neighbourhoods: IsMultigraph",
-        ],
+        without: &["braces_law.neighbourhoods: IsMultigraph"],
         graph: "the hexagon with loops at 1, 3 and 5",
         given: LOOPED_HEXAGON,
         holds: &[

@@ -10,9 +10,7 @@ use std::test::Fail;
 static ROWS: [Row; 5] = [
     Row {
         premises: &["elementary_components_law: `covered`: a perfect matching"],
-        without: &[
-            "elementary_components_law.covered: HasPerfect",
-        ],
+        without: &["elementary_components_law.covered: HasPerfect"],
         graph: "the path 1 2 3",
         given: PATH_OF_3,
         holds: &[Is(&[Loopless]), Set(&[ElementaryComponent], &[1])],
@@ -20,9 +18,7 @@ static ROWS: [Row; 5] = [
     },
     Row {
         premises: &["elementary_components_law: `covered`: a component"],
-        without: &[
-            "elementary_components_law.covered: IsIn vs (elementary_parts g)",
-        ],
+        without: &["elementary_components_law.covered: IsIn vs (elementary_parts g)"],
         graph: "K2 with {1}",
         given: K2,
         holds: &[Is(&[Loopless]), Set(&[Perfect], &[])],
@@ -30,9 +26,7 @@ static ROWS: [Row; 5] = [
     },
     Row {
         premises: &["elementary_components_law: `whole`: a perfect matching"],
-        without: &[
-            "elementary_components_law.whole: HasPerfect",
-        ],
+        without: &["elementary_components_law.whole: HasPerfect"],
         graph: "K1",
         given: ONE_VERTEX,
         holds: &[Set(&[ElementaryComponent], &[1]), Is(&[Loopless, Allowed])],
@@ -40,9 +34,7 @@ static ROWS: [Row; 5] = [
     },
     Row {
         premises: &["elementary_components_law: `whole`: one component"],
-        without: &[
-            "elementary_components_law.whole: length (elementary_parts g) ≡ 1",
-        ],
+        without: &["elementary_components_law.whole: length (elementary_parts g) ≡ 1"],
         graph: "two disjoint edges",
         given: TWO_EDGES,
         holds: &[Set(&[Perfect], &[]), Is(&[Loopless, Allowed])],
@@ -50,12 +42,12 @@ static ROWS: [Row; 5] = [
     },
     Row {
         premises: &["elementary_components_law: `whole`: each edge is allowed"],
-        without: &[
-            "elementary_components_law.whole: Allowed",
-        ],
+        without: &["elementary_components_law.whole: Allowed"],
         graph: "the diamond",
         given: DIAMOND,
-        holds: &[Is(&[Loopless]), Set(&[Perfect], &[]),
+        holds: &[
+            Is(&[Loopless]),
+            Set(&[Perfect], &[]),
             Set(&[ElementaryComponent], &[1, 2, 3, 4]),
         ],
         fails: &[Is(&[Allowed, Covered])],

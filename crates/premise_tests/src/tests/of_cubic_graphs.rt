@@ -28,9 +28,7 @@ static ROWS: [Row; 7] = [
     },
     Row {
         premises: &["cubic_law: `covered`: cubic"],
-        without: &[
-            "cubic_law.covered: IsCubic",
-        ],
+        without: &["cubic_law.covered: IsCubic"],
         graph: "K2,3",
         given: K23,
         holds: &[Is(&[Loopless, TwoEdgeConnected]), Number(Order, 2)],
@@ -38,9 +36,7 @@ static ROWS: [Row; 7] = [
     },
     Row {
         premises: &["cubic_law: `tight`: cubic"],
-        without: &[
-            "cubic_law.tight: IsCubic",
-        ],
+        without: &["cubic_law.tight: IsCubic"],
         graph: "the hexagon",
         given: HEXAGON,
         holds: &[
@@ -52,9 +48,7 @@ static ROWS: [Row; 7] = [
     },
     Row {
         premises: &["cubic_law: `essential`: six vertices; four edges"],
-        without: &[
-            "cubic_law.essential: 6 ≤ g.order",
-        ],
+        without: &["cubic_law.essential: 6 ≤ g.order"],
         graph: "two disjoint triple edges",
         given: TRIPLE_EDGES,
         holds: &[Is(&[Loopless]), Number(Regular, 3), Number(WideCuts, 4)],
@@ -62,9 +56,7 @@ static ROWS: [Row; 7] = [
     },
     Row {
         premises: &["cubic_law: `essential`: six vertices; four edges"],
-        without: &[
-            "cubic_law.essential: 4 ≤ cut_size g x",
-        ],
+        without: &["cubic_law.essential: 4 ≤ cut_size g x"],
         graph: "the hexagon with every other edge doubled",
         given: DOUBLED_HEXAGON,
         holds: &[
@@ -76,9 +68,7 @@ static ROWS: [Row; 7] = [
     },
     Row {
         premises: &["cubic_law: `sides`: connected"],
-        without: &[
-            "cubic_law.sides: IsConnected",
-        ],
+        without: &["cubic_law.sides: IsConnected"],
         graph: "two disjoint triple edges",
         given: TRIPLE_EDGES,
         holds: &[Is(&[Loopless]), Number(Regular, 3), Set(&[Side], &[1, 3])],
@@ -86,9 +76,7 @@ static ROWS: [Row; 7] = [
     },
     Row {
         premises: &["cubic_law: `sides`: cubic"],
-        without: &[
-            "cubic_law.sides: IsCubic",
-        ],
+        without: &["cubic_law.sides: IsCubic"],
         graph: "K2",
         given: K2,
         holds: &[Is(&[Loopless, Connected]), Set(&[Side], &[1])],

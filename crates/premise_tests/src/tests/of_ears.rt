@@ -55,9 +55,7 @@ static LISTS: [Row; 3] = [
     },
     Row {
         premises: &["ear_list_exists_law: `list`: bipartite, for single ears only"],
-        without: &[
-            "ear_list_exists_law.list: IsBipartite",
-        ],
+        without: &["ear_list_exists_law.list: IsBipartite"],
         graph: "K4",
         given: K4,
         holds: &[Is(&[Loopless, Covered]), Lead(Steps::Double, &[1])],
@@ -69,9 +67,7 @@ static STAGES: [Row; 3] = [
     // the cycle 3 5 4 6 has the edges 4, 5, 7 and 8
     Row {
         premises: &["ear_decomposition_law: `goes_on`: conformal"],
-        without: &[
-            "ear_decomposition_law.goes_on: IsConformal",
-        ],
+        without: &["ear_decomposition_law.goes_on: IsConformal"],
         graph: "the graph with the edges 13, 14, 25, 35, 45, 26, 36, 46",
         given: UNCONFORMAL,
         holds: &[
@@ -87,9 +83,7 @@ static STAGES: [Row; 3] = [
     // the cycle 1 2 4 3 has the edges 1, 2, 5 and 6
     Row {
         premises: &["ear_decomposition_law: `goes_on`: bipartite, for single ears"],
-        without: &[
-            "ear_decomposition_law.goes_on: IsBipartite",
-        ],
+        without: &["ear_decomposition_law.goes_on: IsBipartite"],
         graph: "K4 and a 4-cycle",
         given: K4,
         holds: &[
@@ -139,9 +133,7 @@ static PAIRS: [Row; 3] = [
     },
     Row {
         premises: &["ear_decomposition_law: `disjoint`: the next stage is matching covered"],
-        without: &[
-            "ear_decomposition_law.disjoint: IsStage g (next_stage f s)",
-        ],
+        without: &["ear_decomposition_law.disjoint: IsStage g (next_stage f s)"],
         graph: "the hexagon 1 2 3 4 5 6 and the ears 13 and 15",
         given: CHORDED_HEXAGON,
         holds: &[
@@ -155,9 +147,7 @@ static PAIRS: [Row; 3] = [
     // 14 and 24 are the edges 3 and 5
     Row {
         premises: &["ear_decomposition_law: `disjoint`: H is matching covered"],
-        without: &[
-            "ear_decomposition_law.disjoint: IsStage g f",
-        ],
+        without: &["ear_decomposition_law.disjoint: IsStage g f"],
         graph: "in K4, the subgraph with the edges 12, 13, 23, 34 and the ears 14 and 24",
         given: K4,
         holds: &[
@@ -184,9 +174,7 @@ static EARS: [Row; 4] = [
     },
     Row {
         premises: &["two_ear_lemmas_law: `sides`: A is a side"],
-        without: &[
-            "two_ear_lemmas_law.sides: IsSide",
-        ],
+        without: &["two_ear_lemmas_law.sides: IsSide"],
         graph: "the hexagon with A = {1}",
         given: HEXAGON,
         holds: &[Is(&[Covered])],
@@ -205,7 +193,11 @@ static EARS: [Row; 4] = [
             CutSize(&[1, 3], 4),
             Ear(&[1, 2, 3, 4], &[5]),
         ],
-        fails: &[Set(&[Side], &[1, 3]), Is(&[Bipartite]), Edges(Stage, &[1, 2, 3, 4, 5])],
+        fails: &[
+            Set(&[Side], &[1, 3]),
+            Is(&[Bipartite]),
+            Edges(Stage, &[1, 2, 3, 4, 5]),
+        ],
     },
     Row {
         premises: &["bipartite_ear_law: bipartite"],
@@ -246,9 +238,7 @@ static REPORTS: [Row; 2] = [
     },
     Row {
         premises: &["report_exists_law: `check_ears`: the first edge is an edge of the graph"],
-        without: &[
-            "report_exists_law.check_ears: Within (size named.graph) list.start",
-        ],
+        without: &["report_exists_law.check_ears: Within (size named.graph) list.start"],
         graph: "K2 with the first edge 2",
         given: K2,
         holds: &[Is(&[Loopless, Covered]), Number(Size, 1)],

@@ -10,9 +10,7 @@ use std::test::Fail;
 static BARRIERS: [Row; 2] = [
     Row {
         premises: &["elp_cuts_law: `barrier`: matching covered"],
-        without: &[
-            "elp_cuts_law.barrier: IsCovered",
-        ],
+        without: &["elp_cuts_law.barrier: IsCovered"],
         graph: "the path 1 2 3 4 with the barrier {2}, which leaves {3, 4}",
         given: PATH_OF_4,
         holds: &[
@@ -25,9 +23,7 @@ static BARRIERS: [Row; 2] = [
     // the one component is the graph
     Row {
         premises: &["elp_cuts_law: `barrier`: B is not empty"],
-        without: &[
-            "elp_cuts_law.barrier: s a ≡ true",
-        ],
+        without: &["elp_cuts_law.barrier: s a ≡ true"],
         graph: "K2, which is left by the empty barrier",
         given: K2,
         holds: &[Is(&[Covered]), Set(&[Barrier], &[]), Parts(&[], 1)],
@@ -49,9 +45,7 @@ static PAIRS: [Row; 4] = [
     },
     Row {
         premises: &["elp_cuts_law: `separation`: a perfect matching is left"],
-        without: &[
-            "elp_cuts_law.separation: HasPerfect",
-        ],
+        without: &["elp_cuts_law.separation: HasPerfect"],
         graph: "the hexagon 1 2 3 4 5 6 with u = 1 and v = 3, which leave {2}",
         given: HEXAGON,
         holds: &[Parts(&[1, 3], 2), Set(&[Proper], &[2]), Few(&[2], 4)],
@@ -59,9 +53,7 @@ static PAIRS: [Row; 4] = [
     },
     Row {
         premises: &["elp_cuts_law: `separation`: some components; not all"],
-        without: &[
-            "elp_cuts_law.separation: 1 ≤ count g.order m",
-        ],
+        without: &["elp_cuts_law.separation: 1 ≤ count g.order m"],
         graph: "two copies of K4 sharing an edge uv without any component",
         given: TWO_K4,
         holds: &[Parts(&[1, 2], 2), Set(&[Perfect], &[1, 2]), Few(&[], 4)],
@@ -69,9 +61,7 @@ static PAIRS: [Row; 4] = [
     },
     Row {
         premises: &["elp_cuts_law: `separation`: some components; not all"],
-        without: &[
-            "elp_cuts_law.separation: count g.order m + 3 ≤ g.order",
-        ],
+        without: &["elp_cuts_law.separation: count g.order m + 3 ≤ g.order"],
         graph: "two copies of K4 sharing an edge uv with both components",
         given: TWO_K4,
         holds: &[
@@ -80,10 +70,7 @@ static PAIRS: [Row; 4] = [
             Set(&[Proper], &[3, 4, 5, 6]),
             Set(&[Tight, Nontrivial], &[1, 3, 4]),
         ],
-        fails: &[
-            Few(&[3, 4, 5, 6], 4),
-            Set(&[Nontrivial], &[1, 3, 4, 5, 6]),
-        ],
+        fails: &[Few(&[3, 4, 5, 6], 4), Set(&[Nontrivial], &[1, 3, 4, 5, 6])],
     },
 ];
 

@@ -15,10 +15,7 @@ static ROWS: [Row; 6] = [
             "berge_law: `equal`: the matching is maximum",
             "berge_law: `maximum`: equality",
         ],
-        without: &[
-            "berge_law.equal: IsMaximum",
-            "berge_law.maximum: Attains",
-        ],
+        without: &["berge_law.equal: IsMaximum", "berge_law.maximum: Attains"],
         graph: "K2 with the empty matching",
         given: K2,
         holds: &[Edges(Matching, &[])],
@@ -26,9 +23,7 @@ static ROWS: [Row; 6] = [
     },
     Row {
         premises: &["gallai_lemma_law: connected"],
-        without: &[
-            "gallai_lemma_law: IsConnected",
-        ],
+        without: &["gallai_lemma_law: IsConnected"],
         graph: "two disjoint triangles",
         given: TWO_TRIANGLES,
         holds: &[Is(&[Missed])],
@@ -36,9 +31,7 @@ static ROWS: [Row; 6] = [
     },
     Row {
         premises: &["gallai_lemma_law: each vertex is missed"],
-        without: &[
-            "gallai_lemma_law: InD",
-        ],
+        without: &["gallai_lemma_law: InD"],
         graph: "the path with three vertices",
         given: PATH_OF_3,
         holds: &[Is(&[Connected]), Set(&[D], &[1, 3])],
@@ -47,9 +40,7 @@ static ROWS: [Row; 6] = [
     // of the empty set of any graph: here of the star
     Row {
         premises: &["gallai_edmonds_law: `surplus`: S is not empty"],
-        without: &[
-            "gallai_edmonds_law.surplus: 1 ≤ count g.order s",
-        ],
+        without: &["gallai_edmonds_law.surplus: 1 ≤ count g.order s"],
         graph: "any graph",
         given: STAR_OF_3,
         holds: &[Set(&[InA], &[]), Set(&[InA, Spread], &[1])],
@@ -57,12 +48,14 @@ static ROWS: [Row; 6] = [
     },
     Row {
         premises: &["gallai_edmonds_law: `surplus`: S is contained in A"],
-        without: &[
-            "gallai_edmonds_law.surplus: a v ≡ true",
-        ],
+        without: &["gallai_edmonds_law.surplus: a v ≡ true"],
         graph: "the star K1,3",
         given: STAR_OF_3,
-        holds: &[Set(&[D], &[2, 3, 4]), Set(&[InA], &[1]), Set(&[Proper], &[2])],
+        holds: &[
+            Set(&[D], &[2, 3, 4]),
+            Set(&[InA], &[1]),
+            Set(&[Proper], &[2]),
+        ],
         fails: &[Set(&[InA, Spread], &[2])],
     },
     Row {

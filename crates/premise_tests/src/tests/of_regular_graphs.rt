@@ -54,9 +54,7 @@ static COVERED: [Row; 6] = [
     },
     Row {
         premises: &["regular_law: `covered`: connected; two vertices"],
-        without: &[
-            "regular_law.covered: IsConnected",
-        ],
+        without: &["regular_law.covered: IsConnected"],
         graph: "two disjoint copies of K4",
         given: DISJOINT_K4,
         holds: &[
@@ -139,10 +137,7 @@ static SIDES: [Row; 3] = [
             "regular_law: `bipartite`: bipartite; regular; no loop",
             "cubic_law: `sides`: bipartite",
         ],
-        without: &[
-            "regular_law.bipartite: IsSide",
-            "cubic_law.sides: IsSide",
-        ],
+        without: &["regular_law.bipartite: IsSide", "cubic_law.sides: IsSide"],
         graph: "the cubic graph",
         given: BRIDGED,
         holds: &[Is(&[Loopless, Connected]), Number(Regular, 3)],
@@ -150,9 +145,7 @@ static SIDES: [Row; 3] = [
     },
     Row {
         premises: &["regular_law: `bipartite`: bipartite; regular; no loop"],
-        without: &[
-            "regular_law.bipartite: IsRegular",
-        ],
+        without: &["regular_law.bipartite: IsRegular"],
         graph: "the path with three vertices, r = 2",
         given: PATH_OF_3,
         holds: &[Is(&[Loopless]), Set(&[Side], &[2])],
@@ -180,10 +173,7 @@ static NARROW: [Row; 4] = [
             "regular_law: `narrow`: bipartite; regular; odd; r ≥ 1",
             "cubic_law: `narrow`: bipartite",
         ],
-        without: &[
-            "regular_law.narrow: IsSide",
-            "cubic_law.narrow: IsSide",
-        ],
+        without: &["regular_law.narrow: IsSide", "cubic_law.narrow: IsSide"],
         graph: "the prism",
         given: PRISM,
         holds: &[
@@ -199,10 +189,7 @@ static NARROW: [Row; 4] = [
             "regular_law: `narrow`: bipartite; regular; odd; r ≥ 1",
             "cubic_law: `narrow`: cubic",
         ],
-        without: &[
-            "regular_law.narrow: IsRegular",
-            "cubic_law.narrow: IsCubic",
-        ],
+        without: &["regular_law.narrow: IsRegular", "cubic_law.narrow: IsCubic"],
         graph: "the ladder with three rungs",
         given: LADDER,
         holds: &[
@@ -215,9 +202,7 @@ static NARROW: [Row; 4] = [
     },
     Row {
         premises: &["regular_law: `narrow`: bipartite; regular; odd; r ≥ 1"],
-        without: &[
-            "regular_law.narrow: is_odd (count g.order x) ≡ true",
-        ],
+        without: &["regular_law.narrow: is_odd (count g.order x) ≡ true"],
         graph: "the 4-cycle with {1, 2}",
         given: FOUR_CYCLE,
         holds: &[
@@ -231,9 +216,7 @@ static NARROW: [Row; 4] = [
     // here r = 0, and the premise is that there are edges at a vertex
     Row {
         premises: &["regular_law: `narrow`: bipartite; regular; odd; r ≥ 1"],
-        without: &[
-            "regular_law.narrow: 1 ≤ r",
-        ],
+        without: &["regular_law.narrow: 1 ≤ r"],
         graph: "three isolated vertices",
         given: THREE_ISOLATED,
         holds: &[
@@ -253,10 +236,7 @@ static BRACES: [Row; 4] = [
             "regular_law: `brace`: bipartite; regular; r ≥ 1",
             "cubic_law: `brace`: bipartite",
         ],
-        without: &[
-            "regular_law.brace: IsSide",
-            "cubic_law.brace: IsSide",
-        ],
+        without: &["regular_law.brace: IsSide", "cubic_law.brace: IsSide"],
         graph: "the prism",
         given: PRISM,
         holds: &[Is(&[Loopless]), Number(Regular, 3), Number(OddCut, 3)],
@@ -269,10 +249,7 @@ static BRACES: [Row; 4] = [
             "regular_law: `brace`: bipartite; regular; r ≥ 1",
             "cubic_law: `brace`: cubic",
         ],
-        without: &[
-            "regular_law.brace: IsRegular",
-            "cubic_law.brace: IsCubic",
-        ],
+        without: &["regular_law.brace: IsRegular", "cubic_law.brace: IsCubic"],
         graph: "the hexagon",
         given: HEXAGON,
         holds: &[Is(&[Loopless, Composite]), Set(&[Side], &[1, 3, 5])],
@@ -280,9 +257,7 @@ static BRACES: [Row; 4] = [
     },
     Row {
         premises: &["regular_law: `brace`: bipartite; regular; r ≥ 1"],
-        without: &[
-            "regular_law.brace: 1 ≤ r",
-        ],
+        without: &["regular_law.brace: 1 ≤ r"],
         graph: "seven isolated vertices",
         given: SEVEN_ISOLATED,
         holds: &[
@@ -295,9 +270,7 @@ static BRACES: [Row; 4] = [
     },
     Row {
         premises: &["regular_law: `cubic`: cubic"],
-        without: &[
-            "regular_law.cubic: IsCubic",
-        ],
+        without: &["regular_law.cubic: IsCubic"],
         graph: "the hexagon",
         given: HEXAGON,
         holds: &[Is(&[Loopless, TwoEdgeConnected, Connected])],

@@ -12,9 +12,7 @@ static WEIGHTS: [Row; 4] = [
     // the edges of the cut of {1, 3, 4}
     Row {
         premises: &["potential_law: `potential`: no nontrivial tight cut"],
-        without: &[
-            "potential_law.potential: HasOnlyTrivialTightCuts",
-        ],
+        without: &["potential_law.potential: HasOnlyTrivialTightCuts"],
         graph: "two copies of K4 sharing an edge",
         given: TWO_K4,
         holds: &[
