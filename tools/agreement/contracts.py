@@ -33,13 +33,8 @@ def split(text, sign):
 def bare(text):
     """A formula without the parentheses around the whole of it."""
     text = text.strip()
-    while text.startswith("(") and not BINDER.fullmatch(text) and len(split("x" + text[:-1], ")")) == 1 and text.endswith(")"):
-        inner, depth = text[1:-1], 0
-        for it in inner:
-            depth += (it == "(") - (it == ")")
-            if depth < 0:
-                return text
-        text = inner.strip()
+    while text.startswith("(") and text.endswith(")") and not BINDER.fullmatch(text) and len(split(text[:-1], ")")) == 1:
+        text = text[1:-1].strip()
     return text
 
 
