@@ -3,10 +3,13 @@
 A row of a table of premises names a premise and a graph without it. For each a `Row` of crates/premise_tests must have the words
 `LAW: PREMISE` among its premises, and words of the name that the book gives to the graph; where the book names several graphs, one
 `Row` for each. No `Row` may be of a premise or a graph that the book does not name. A `Row` in a comment does not count, nor one in a table that no test
-goes through. Lists what is missing or too much, and ends with status 1 if anything is.
+goes through. What the rows name in the contracts is compared by named_premises.py. Lists what is missing or too much, and ends with
+status 1 if anything is.
 """
 import pathlib
 import re
+
+import named_premises
 
 DOCUMENT = pathlib.Path("docs/THEOREMS.md")
 TESTS = pathlib.Path("crates/premise_tests/src/tests")
@@ -46,23 +49,32 @@ def tried_in(text):
     return {name for body in bodies for name in re.findall(r"\ball_are_so\([^;]*?&(\w+)\)", body)}
 
 
+def fields(row):
+    """The fields of a row that are compared."""
+    found = re.search(r'premises: (.*?),\s*without: (.*?),\s*graph:\s*"([^"]+)",.*?holds: (.*?),\s*fails: (.*)', row, re.DOTALL)
+    lists = {"premises": re.findall(r'"([^"]+)"', found[1]), "without": re.findall(r'"([^"]+)"', found[2])}
+    return {**lists, "graph": found[3], "holds": found[4], "fails": found[5]}
+
+
 def tests(wrong):
-    """The premises that the tests name, each with its graphs; adds the tables that no test goes through to those that are wrong."""
-    found = {}
+    """The rows that the tests go through, with their files; adds the tables that no test goes through to those that are wrong."""
+    found = []
     for file in sorted(TESTS.glob("*.rt")):
         text = re.sub(r"^\s*//.*\n", "", file.read_text(), flags=re.MULTILINE)
         tried, rows = tried_in(text), tables(text)
         wrong += [f"{file}: no test goes through the table {name}" for name in rows if name not in tried]
-        for name in tried & set(rows):
-            for premises, graph in re.findall(r'premises:\s*&\[(.*?)\],\s*graph:\s*"([^"]+)"', rows[name], re.DOTALL):
-                for premise in re.findall(r'"([^"]+)"', premises):
-                    found.setdefault(premise, []).append(graph)
+        for name in rows:
+            if name in tried:
+                found += [(file, fields(row)) for row in rows[name].split("    Row {")[1:]]
     return found
 
 
 def main():
-    wrong, known = [], {}
-    tried = tests(wrong)
+    wrong, known, tried = [], {}, {}
+    found = tests(wrong)
+    for file, row in found:
+        for premise in row["premises"]:
+            tried.setdefault(premise, []).append(row["graph"])
     for premise, graphs in rows():
         known[premise] = graphs
         if premise in ELSEWHERE:
@@ -78,8 +90,10 @@ def main():
     wrong += [f"{DOCUMENT} has no such premise: {premise}" for premise in [*tried, *ELSEWHERE] if premise not in known]
     if len(known) < LEAST:
         wrong.append(f"{DOCUMENT}: only {len(known)} premises were found; there were {LEAST} at least")
+    count = named_premises.compare(found, known, wrong)
     for line in wrong:
         print(line)
     if not wrong:
-        print(f"each of the {len(known)} premises of {DOCUMENT} has a test that shows that it is needed")
+        print(f"each of the {len(known)} premises of {DOCUMENT} has a test that shows that it is needed; "
+              f"{count} names of premises are those of the contracts")
     return 1 if wrong else 0

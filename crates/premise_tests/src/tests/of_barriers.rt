@@ -15,15 +15,21 @@ static ROWS: [Row; 5] = [
             "kotzig_lovasz_law: `one`: elementary",
             "kotzig_lovasz_law: `components`: elementary",
         ],
+        without: &[
+            "kotzig_lovasz_law.equivalence: IsElementary",
+            "kotzig_lovasz_law.classes: IsElementary",
+            "kotzig_lovasz_law.one: IsElementary",
+            "kotzig_lovasz_law.components: IsElementary",
+        ],
         graph: "the path 1 2 3 4",
         given: PATH_OF_4,
         holds: &[
             Equivalent(1, 3),
             Equivalent(3, 2),
             Class(2, &[2, 3, 4]),
-            Set(&[Barrier], &[2, 3]),
+            Set(&[Barrier, Proper], &[2, 3]),
             Class(3, &[1, 2, 3]),
-            Set(&[Barrier], &[2]),
+            Set(&[Barrier, Proper], &[2]),
             Parts(&[2], 2),
         ],
         fails: &[
@@ -35,6 +41,7 @@ static ROWS: [Row; 5] = [
     },
     Row {
         premises: &["kotzig_lovasz_law: `one`: a nonempty barrier"],
+        without: &["kotzig_lovasz_law.one: s a ≡ true"],
         graph: "the hexagon",
         given: HEXAGON,
         holds: &[
@@ -47,6 +54,7 @@ static ROWS: [Row; 5] = [
     },
     Row {
         premises: &["kotzig_lovasz_law: `components`: a nonempty barrier"],
+        without: &["kotzig_lovasz_law.components: s a ≡ true"],
         graph: "K2 with the empty barrier",
         given: K2,
         holds: &[Is(&[Elementary]), Set(&[Barrier], &[]), Parts(&[], 1)],
@@ -54,6 +62,10 @@ static ROWS: [Row; 5] = [
     },
     Row {
         premises: &["kotzig_lovasz_law: `critical`, `maximal`: not only a barrier"],
+        without: &[
+            "kotzig_lovasz_law.critical: IsClass",
+            "kotzig_lovasz_law.maximal: IsMaximalBarrier",
+        ],
         graph: "the hexagon with {1}",
         given: HEXAGON,
         holds: &[
@@ -70,6 +82,7 @@ static ROWS: [Row; 5] = [
     },
     Row {
         premises: &["kotzig_lovasz_law: `elementary`: matching covered"],
+        without: &["kotzig_lovasz_law.elementary: IsCovered"],
         graph: "the path 1 2 3 4",
         given: PATH_OF_4,
         holds: &[Set(&[Perfect], &[])],

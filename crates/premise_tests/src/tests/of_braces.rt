@@ -16,6 +16,11 @@ use std::test::Fail;
 static BRACES: [Row; 5] = [
     Row {
         premises: &["braces_law: matching covered"],
+        without: &[
+            "braces_law.fours: IsCovered",
+            "braces_law.neighbourhoods: IsCovered",
+            "braces_law.two_edges: IsCovered",
+        ],
         graph: "the star K1,5, where A is its centre",
         given: STAR_OF_5,
         holds: &[
@@ -27,6 +32,10 @@ static BRACES: [Row; 5] = [
     },
     Row {
         premises: &["braces_law: `fours`, `neighbourhoods`: A is a side"],
+        without: &[
+            "braces_law.fours: IsSide",
+            "braces_law.neighbourhoods: IsSide",
+        ],
         graph: "two copies of K4 sharing an edge, where A is empty",
         given: TWO_K4,
         holds: &[
@@ -38,6 +47,7 @@ static BRACES: [Row; 5] = [
     // 12 and 56 are in different triangles and do not face each other
     Row {
         premises: &["braces_law: `two_edges`: bipartite"],
+        without: &["braces_law.two_edges: IsSide"],
         graph: "the prism",
         given: PRISM,
         holds: &[Is(&[Loopless, Covered])],
@@ -48,6 +58,7 @@ static BRACES: [Row; 5] = [
     },
     Row {
         premises: &["braces_law: `neighbourhoods`: no loop"],
+        without: &["braces_law.neighbourhoods: IsMultigraph"],
         graph: "the hexagon with loops at 1, 3 and 5",
         given: LOOPED_HEXAGON,
         holds: &[
@@ -59,6 +70,10 @@ static BRACES: [Row; 5] = [
     },
     Row {
         premises: &["braces_law: `two_edges`, `connected`: no loop"],
+        without: &[
+            "braces_law.two_edges: IsMultigraph",
+            "braces_law.connected: IsMultigraph",
+        ],
         graph: "K3,3 with a loop",
         given: K33_WITH_LOOP,
         holds: &[Is(&[Covered]), Set(&[Side], &[1, 2, 3]), Number(Order, 6)],
@@ -74,6 +89,12 @@ static CONNECTED: [Row; 4] = [
         premises: &[
             "braces_law: `connected`: six vertices",
             "extendable_law: six vertices",
+        ],
+        without: &[
+            "braces_law.connected: 6 ≤ g.order",
+            "extendable_law.uncut: 6 ≤ g.order",
+            "extendable_law.kinds: 6 ≤ g.order",
+            "extendable_law.connected: 6 ≤ g.order",
         ],
         graph: "the path with four vertices",
         given: PATH_OF_4,
@@ -93,13 +114,19 @@ static CONNECTED: [Row; 4] = [
             "braces_law: `connected`: the three conditions",
             "extendable_law: connected",
         ],
+        without: &[
+            "braces_law.connected: IsConnected",
+            "extendable_law.uncut: IsConnected",
+            "extendable_law.kinds: IsConnected",
+            "extendable_law.connected: IsConnected",
+        ],
         graph: "three disjoint edges",
         given: THREE_EDGES,
         holds: &[
             Set(&[Side], &[1, 3, 5]),
             Number(Order, 6),
             Set(&[Perfect], &[]),
-            Is(&[TwoExtendable]),
+            Is(&[Loopless, TwoExtendable]),
         ],
         fails: &[Is(&[Connected, Covered, ThreeConnected])],
     },
@@ -108,12 +135,18 @@ static CONNECTED: [Row; 4] = [
             "braces_law: `connected`: the three conditions",
             "extendable_law: a perfect matching",
         ],
+        without: &[
+            "braces_law.connected: HasPerfect",
+            "extendable_law.uncut: HasPerfect",
+            "extendable_law.kinds: HasPerfect",
+            "extendable_law.connected: HasPerfect",
+        ],
         graph: "the star K1,5",
         given: STAR_OF_5,
         holds: &[
             Set(&[Side], &[1]),
             Number(Order, 6),
-            Is(&[Connected, TwoExtendable]),
+            Is(&[Loopless, Connected, TwoExtendable]),
         ],
         fails: &[Set(&[Perfect], &[]), Is(&[Covered, ThreeConnected])],
     },
@@ -122,12 +155,18 @@ static CONNECTED: [Row; 4] = [
             "braces_law: `connected`: the three conditions",
             "extendable_law: 2-extendable",
         ],
+        without: &[
+            "braces_law.connected: IsTwoExtendable",
+            "extendable_law.uncut: IsTwoExtendable",
+            "extendable_law.kinds: IsTwoExtendable",
+            "extendable_law.connected: IsTwoExtendable",
+        ],
         graph: "the hexagon",
         given: HEXAGON,
         holds: &[
             Set(&[Side], &[1, 3, 5]),
             Number(Order, 6),
-            Is(&[Connected, Composite]),
+            Is(&[Loopless, Connected, Composite]),
             Set(&[Perfect], &[]),
         ],
         fails: &[Is(&[TwoExtendable, ThreeConnected])],
@@ -138,6 +177,10 @@ static DIGRAPHS: [Row; 2] = [
     // the edges 2, 5 and 11 are 13, 24 and 56
     Row {
         premises: &["strong_digraph_law: A is a side"],
+        without: &[
+            "strong_digraph_law.mates: IsSide",
+            "strong_digraph_law.brace: IsSide",
+        ],
         graph: "two copies of K4 sharing the edge 12, with A = {1}, M = {13, 24, 56} and the edge 13",
         given: TWO_K4,
         holds: &[
@@ -151,6 +194,10 @@ static DIGRAPHS: [Row; 2] = [
     },
     Row {
         premises: &["strong_digraph_law: M is perfect"],
+        without: &[
+            "strong_digraph_law.mates: IsPerfect",
+            "strong_digraph_law.brace: IsPerfect",
+        ],
         graph: "K3,3, where M has one edge",
         given: K33,
         holds: &[Is(&[Covered]), Set(&[Side], &[1, 2, 3])],

@@ -21,6 +21,7 @@ static CUTS: [Row; 2] = [
             "elp_law: `cut`: matching covered",
             "elp_law: `bipartite`: matching covered",
         ],
+        without: &["elp_law.cut: IsCovered", "elp_law.bipartite: IsCovered"],
         graph: "the star K1,5",
         given: STAR_OF_5,
         holds: &[
@@ -36,6 +37,7 @@ static CUTS: [Row; 2] = [
     },
     Row {
         premises: &["elp_law: `bipartite`: the graph is bipartite"],
+        without: &["elp_law.bipartite: IsSide"],
         graph: "two copies of K4 sharing an edge",
         given: TWO_K4,
         holds: &[Is(&[Covered]), Sets(&[Tight], &[&[1, 3, 4], &[2, 3, 4]])],
@@ -49,6 +51,7 @@ static CUTS: [Row; 2] = [
 static CUTS_BESIDE: [Row; 5] = [
     Row {
         premises: &["elp_law: `beside`, `alone`: matching covered"],
+        without: &["elp_law.beside: IsCovered", "elp_law.alone: IsCovered"],
         graph: "the star K1,5",
         given: STAR_OF_5,
         holds: &[Set(&[Tight, Nontrivial, Alone], &[1, 2, 3])],
@@ -60,6 +63,7 @@ static CUTS_BESIDE: [Row; 5] = [
     },
     Row {
         premises: &["elp_law: `inside`: matching covered"],
+        without: &["elp_law.inside: IsCovered"],
         graph: "the complete bipartite graph K2,4",
         given: K24,
         holds: &[Set(&[Tight, Nontrivial], &[1, 3, 4])],
@@ -71,6 +75,11 @@ static CUTS_BESIDE: [Row; 5] = [
     },
     Row {
         premises: &["elp_law: `beside`, `inside`, `alone`: tight"],
+        without: &[
+            "elp_law.beside: IsTight",
+            "elp_law.inside: IsTight",
+            "elp_law.alone: IsTight",
+        ],
         graph: "two copies of K4 sharing an edge",
         given: TWO_K4,
         holds: &[
@@ -81,6 +90,11 @@ static CUTS_BESIDE: [Row; 5] = [
     },
     Row {
         premises: &["elp_law: `beside`, `inside`, `alone`: nontrivial"],
+        without: &[
+            "elp_law.beside: IsNontrivial",
+            "elp_law.inside: IsNontrivial",
+            "elp_law.alone: IsNontrivial",
+        ],
         graph: "K4",
         given: K4,
         holds: &[Is(&[Covered, Bicritical]), Set(&[Tight, Alone], &[1])],
@@ -88,6 +102,7 @@ static CUTS_BESIDE: [Row; 5] = [
     },
     Row {
         premises: &["elp_law: `alone`: no other cut beside it"],
+        without: &["elp_law.alone: Cross"],
         graph: "the bicritical graph with the edges 13, 14, 15, 17, 23, 24, 25, 26, 28, 34, 57, 67, 68 and 78",
         given: SHORE_NO_PART,
         holds: &[
@@ -101,6 +116,7 @@ static CUTS_BESIDE: [Row; 5] = [
 static BRICKS: [Row; 6] = [
     Row {
         premises: &["elp_law: `brick`: four vertices"],
+        without: &["elp_law.brick: 4 ≤ g.order"],
         graph: "K2",
         given: K2,
         holds: &[Is(&[Loopless, Bicritical, Unseparated, Bipartite])],
@@ -108,6 +124,7 @@ static BRICKS: [Row; 6] = [
     },
     Row {
         premises: &["elp_law: `brick`: bicritical"],
+        without: &["elp_law.brick: IsBicritical"],
         graph: "K3,3",
         given: K33,
         holds: &[Is(&[Loopless, Unseparated, Bipartite]), Number(Order, 4)],
@@ -115,6 +132,7 @@ static BRICKS: [Row; 6] = [
     },
     Row {
         premises: &["elp_law: `brick`: no cut pair"],
+        without: &["elp_law.brick: ¬ (IsCutPair g u v)"],
         graph: "two copies of K4 sharing an edge",
         given: TWO_K4,
         holds: &[Is(&[Loopless, Bicritical, Composite]), Number(Order, 4)],
@@ -122,6 +140,10 @@ static BRICKS: [Row; 6] = [
     },
     Row {
         premises: &["elp_law: `brick`, `three_connected`: no loop"],
+        without: &[
+            "elp_law.brick: IsMultigraph",
+            "elp_law.three_connected: IsMultigraph",
+        ],
         graph: "K2 with a loop",
         given: K2_WITH_LOOP,
         holds: &[Is(&[Covered])],
@@ -132,6 +154,7 @@ static BRICKS: [Row; 6] = [
     },
     Row {
         premises: &["elp_law: `connected`: four vertices"],
+        without: &["elp_law.connected: 4 ≤ g.order"],
         graph: "three isolated vertices",
         given: THREE_ISOLATED,
         holds: &[Is(&[Unseparated])],
@@ -139,10 +162,11 @@ static BRICKS: [Row; 6] = [
     },
     Row {
         premises: &["extendable_law: `brick`: not bipartite"],
+        without: &["extendable_law.brick: ¬ (IsBipartite g)"],
         graph: "K3,3",
         given: K33,
         holds: &[
-            Is(&[Connected, TwoExtendable]),
+            Is(&[Loopless, Connected, TwoExtendable]),
             Number(Order, 6),
             Set(&[Perfect], &[]),
         ],

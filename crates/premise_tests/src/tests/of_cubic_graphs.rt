@@ -11,6 +11,10 @@ use std::test::Fail;
 static ROWS: [Row; 7] = [
     Row {
         premises: &["cubic_law: `covered`, `tight`: 2-edge-connected"],
+        without: &[
+            "cubic_law.covered: IsTwoEdgeConnected",
+            "cubic_law.tight: IsTwoEdgeConnected",
+        ],
         graph: "the cubic graph with the edges 12, 13, 23, 23, 45, 46, 56, 56, 14",
         given: BRIDGED,
         holds: &[
@@ -24,6 +28,7 @@ static ROWS: [Row; 7] = [
     },
     Row {
         premises: &["cubic_law: `covered`: cubic"],
+        without: &["cubic_law.covered: IsCubic"],
         graph: "K2,3",
         given: K23,
         holds: &[Is(&[Loopless, TwoEdgeConnected]), Number(Order, 2)],
@@ -31,6 +36,7 @@ static ROWS: [Row; 7] = [
     },
     Row {
         premises: &["cubic_law: `tight`: cubic"],
+        without: &["cubic_law.tight: IsCubic"],
         graph: "the hexagon",
         given: HEXAGON,
         holds: &[
@@ -42,6 +48,7 @@ static ROWS: [Row; 7] = [
     },
     Row {
         premises: &["cubic_law: `essential`: six vertices; four edges"],
+        without: &["cubic_law.essential: 6 ≤ g.order"],
         graph: "two disjoint triple edges",
         given: TRIPLE_EDGES,
         holds: &[Is(&[Loopless]), Number(Regular, 3), Number(WideCuts, 4)],
@@ -49,6 +56,7 @@ static ROWS: [Row; 7] = [
     },
     Row {
         premises: &["cubic_law: `essential`: six vertices; four edges"],
+        without: &["cubic_law.essential: 4 ≤ cut_size g x"],
         graph: "the hexagon with every other edge doubled",
         given: DOUBLED_HEXAGON,
         holds: &[
@@ -60,6 +68,7 @@ static ROWS: [Row; 7] = [
     },
     Row {
         premises: &["cubic_law: `sides`: connected"],
+        without: &["cubic_law.sides: IsConnected"],
         graph: "two disjoint triple edges",
         given: TRIPLE_EDGES,
         holds: &[Is(&[Loopless]), Number(Regular, 3), Set(&[Side], &[1, 3])],
@@ -67,6 +76,7 @@ static ROWS: [Row; 7] = [
     },
     Row {
         premises: &["cubic_law: `sides`: cubic"],
+        without: &["cubic_law.sides: IsCubic"],
         graph: "K2",
         given: K2,
         holds: &[Is(&[Loopless, Connected]), Set(&[Side], &[1])],

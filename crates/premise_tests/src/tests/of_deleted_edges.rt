@@ -10,6 +10,7 @@ use std::test::Fail;
 static DELETED: [Row; 3] = [
     Row {
         premises: &["regular_law: `deleted`: wide odd cuts; fewer than r edges; regular"],
+        without: &["regular_law.deleted: HasWideOddCuts"],
         graph: "the cubic graph above without its bridge 14",
         given: BRIDGED,
         holds: &[Is(&[Loopless]), Number(Regular, 3), Few(&[9], 3)],
@@ -17,6 +18,7 @@ static DELETED: [Row; 3] = [
     },
     Row {
         premises: &["regular_law: `deleted`: wide odd cuts; fewer than r edges; regular"],
+        without: &["regular_law.deleted: count (size g) f + 1 ≤ r"],
         graph: "K4 without the three edges at a vertex",
         given: K4,
         holds: &[
@@ -29,6 +31,7 @@ static DELETED: [Row; 3] = [
     },
     Row {
         premises: &["regular_law: `deleted`: wide odd cuts; fewer than r edges; regular"],
+        without: &["regular_law.deleted: IsRegular"],
         graph: "the star K1,3 with doubled edges, r = 2, without any edge deleted",
         given: DOUBLED_STAR,
         holds: &[Is(&[Loopless]), Number(WideOddCuts, 2), Few(&[], 2)],
@@ -39,6 +42,7 @@ static DELETED: [Row; 3] = [
 static CONNECTED: [Row; 3] = [
     Row {
         premises: &["regular_law: `connected`: even order; (r − 1)-edge-connected; regular"],
+        without: &["regular_law.connected: is_odd g.order ≡ false"],
         graph: "the triangle, r = 2",
         given: TRIANGLE,
         holds: &[
@@ -50,6 +54,7 @@ static CONNECTED: [Row; 3] = [
     },
     Row {
         premises: &["regular_law: `connected`: even order; (r − 1)-edge-connected; regular"],
+        without: &["regular_law.connected: r ≤ cut_size g x + 1"],
         graph: "the cubic graph above",
         given: BRIDGED,
         holds: &[Is(&[Loopless, Even]), Number(Regular, 3)],
@@ -57,6 +62,7 @@ static CONNECTED: [Row; 3] = [
     },
     Row {
         premises: &["regular_law: `connected`: even order; (r − 1)-edge-connected; regular"],
+        without: &["regular_law.connected: IsRegular"],
         graph: "the hexagon, r = 3",
         given: HEXAGON,
         holds: &[Is(&[Loopless, Even]), Number(EdgeConnected, 2)],

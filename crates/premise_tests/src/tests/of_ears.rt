@@ -1,7 +1,7 @@
 //! Premises of the theorems on ears, and of that on reports.
 
 use super::claims::Claim::{
-    Apart, Ear, EarCount, Edges, Is, Lead, Needed, Number, OneOrTwo, Set, TwoEars,
+    Apart, CutSize, Ear, EarCount, Edges, Is, Lead, Needed, Number, OneOrTwo, Set, TwoEars,
 };
 use super::claims::OfEdges::{Conformal, Stage};
 use super::claims::OfNumber::Size;
@@ -21,6 +21,10 @@ static LISTS: [Row; 3] = [
             "ear_list_exists_law: matching covered",
             "ear_decomposition_law: `goes_on`: matching covered",
         ],
+        without: &[
+            "ear_list_exists_law.list: IsCovered",
+            "ear_decomposition_law.goes_on: IsCovered",
+        ],
         graph: "the path with four vertices",
         given: PATH_OF_4,
         holds: &[Is(&[Loopless]), Edges(Stage, &[1]), Edges(Conformal, &[1])],
@@ -36,6 +40,10 @@ static LISTS: [Row; 3] = [
             "ear_list_exists_law: no loop",
             "ear_decomposition_law: `goes_on`: no loop",
         ],
+        without: &[
+            "ear_list_exists_law.list: IsMultigraph",
+            "ear_decomposition_law.goes_on: IsMultigraph",
+        ],
         graph: "K2 with a loop",
         given: K2_WITH_LOOP,
         holds: &[Is(&[Covered]), Edges(Stage, &[1]), Edges(Conformal, &[1])],
@@ -47,6 +55,7 @@ static LISTS: [Row; 3] = [
     },
     Row {
         premises: &["ear_list_exists_law: `list`: bipartite, for single ears only"],
+        without: &["ear_list_exists_law.list: IsBipartite"],
         graph: "K4",
         given: K4,
         holds: &[Is(&[Loopless, Covered]), Lead(Steps::Double, &[1])],
@@ -58,6 +67,7 @@ static STAGES: [Row; 3] = [
     // the cycle 3 5 4 6 has the edges 4, 5, 7 and 8
     Row {
         premises: &["ear_decomposition_law: `goes_on`: conformal"],
+        without: &["ear_decomposition_law.goes_on: IsConformal"],
         graph: "the graph with the edges 13, 14, 25, 35, 45, 26, 36, 46",
         given: UNCONFORMAL,
         holds: &[
@@ -73,6 +83,7 @@ static STAGES: [Row; 3] = [
     // the cycle 1 2 4 3 has the edges 1, 2, 5 and 6
     Row {
         premises: &["ear_decomposition_law: `goes_on`: bipartite, for single ears"],
+        without: &["ear_decomposition_law.goes_on: IsBipartite"],
         graph: "K4 and a 4-cycle",
         given: K4,
         holds: &[
@@ -89,6 +100,10 @@ static STAGES: [Row; 3] = [
             "ear_decomposition_law: `conformal`: matching covered",
             "ear_count_law: `covered`: matching covered",
         ],
+        without: &[
+            "ear_decomposition_law.conformal: IsCovered",
+            "ear_count_law.covered: IsCovered",
+        ],
         graph: "an edge and an isolated vertex",
         given: EDGE_AND_VERTEX,
         holds: &[Is(&[Loopless]), Lead(Steps::Double, &[1])],
@@ -102,6 +117,10 @@ static PAIRS: [Row; 3] = [
         premises: &[
             "ear_decomposition_law: `disjoint`, `lists`: neither ear alone keeps the stage matching covered",
         ],
+        without: &[
+            "ear_decomposition_law.disjoint: IsNeeded",
+            "ear_decomposition_law.lists: IsUnrefinable",
+        ],
         graph: "one edge of three parallel edges, and the two others as ears",
         given: THREE_PARALLEL,
         holds: &[
@@ -114,6 +133,7 @@ static PAIRS: [Row; 3] = [
     },
     Row {
         premises: &["ear_decomposition_law: `disjoint`: the next stage is matching covered"],
+        without: &["ear_decomposition_law.disjoint: IsStage g (next_stage f s)"],
         graph: "the hexagon 1 2 3 4 5 6 and the ears 13 and 15",
         given: CHORDED_HEXAGON,
         holds: &[
@@ -127,6 +147,7 @@ static PAIRS: [Row; 3] = [
     // 14 and 24 are the edges 3 and 5
     Row {
         premises: &["ear_decomposition_law: `disjoint`: H is matching covered"],
+        without: &["ear_decomposition_law.disjoint: IsStage g f"],
         graph: "in K4, the subgraph with the edges 12, 13, 23, 34 and the ears 14 and 24",
         given: K4,
         holds: &[
@@ -142,6 +163,10 @@ static PAIRS: [Row; 3] = [
 static EARS: [Row; 4] = [
     Row {
         premises: &["two_ear_lemmas_law: `pairs`, `edges`: at least one pair or edge"],
+        without: &[
+            "two_ear_lemmas_law.pairs: ps ≢ []",
+            "two_ear_lemmas_law.edges: ps ≢ []",
+        ],
         graph: "K2 and the empty list",
         given: K2,
         holds: &[Is(&[Covered]), Set(&[Perfect], &[]), OneOrTwo(&[(1, 2)])],
@@ -149,6 +174,7 @@ static EARS: [Row; 4] = [
     },
     Row {
         premises: &["two_ear_lemmas_law: `sides`: A is a side"],
+        without: &["two_ear_lemmas_law.sides: IsSide"],
         graph: "the hexagon with A = {1}",
         given: HEXAGON,
         holds: &[Is(&[Covered])],
@@ -156,13 +182,29 @@ static EARS: [Row; 4] = [
     },
     Row {
         premises: &["bipartite_ear_law: opposite sides"],
+        without: &[
+            "bipartite_ear_law.covered: a (last_vertex g v es) ≡ not (a v)",
+            "bipartite_ear_law.bipartite: a (last_vertex g v es) ≡ not (a v)",
+        ],
         graph: "the 4-cycle with the edge 13",
         given: CHORDED_CYCLE,
-        holds: &[Edges(Stage, &[1, 2, 3, 4]), Ear(&[1, 2, 3, 4], &[5])],
-        fails: &[Is(&[Bipartite]), Edges(Stage, &[1, 2, 3, 4, 5])],
+        holds: &[
+            Edges(Stage, &[1, 2, 3, 4]),
+            CutSize(&[1, 3], 4),
+            Ear(&[1, 2, 3, 4], &[5]),
+        ],
+        fails: &[
+            Set(&[Side], &[1, 3]),
+            Is(&[Bipartite]),
+            Edges(Stage, &[1, 2, 3, 4, 5]),
+        ],
     },
     Row {
         premises: &["bipartite_ear_law: bipartite"],
+        without: &[
+            "bipartite_ear_law.covered: in_cut g a e ≡ true",
+            "bipartite_ear_law.bipartite: in_cut g a e ≡ true",
+        ],
         graph: "the graph with the triangle abc and the edges uv, uw, va, wb, wc",
         given: TRIANGLE_WITH_EAR,
         holds: &[
@@ -179,10 +221,16 @@ static REPORTS: [Row; 2] = [
         premises: &[
             "report_exists_law: `check`, `replay`, `compare`, `script`: shores without the highest-numbered vertex",
         ],
+        without: &[
+            "report_exists_law.check: HasShores",
+            "report_exists_law.replay: HasShores",
+            "report_exists_law.compare: HasShores",
+            "report_exists_law.script: HasShores",
+        ],
         graph: "a tree for the hexagon with the shore {4, 5, 6}",
         given: HEXAGON,
         holds: &[
-            Is(&[Covered]),
+            Is(&[Loopless, Covered]),
             Set(&[Tight, Nontrivial], &[4, 5, 6]),
             Set(&[Canonical], &[1, 2, 3]),
         ],
@@ -190,9 +238,10 @@ static REPORTS: [Row; 2] = [
     },
     Row {
         premises: &["report_exists_law: `check_ears`: the first edge is an edge of the graph"],
+        without: &["report_exists_law.check_ears: Within (size named.graph) list.start"],
         graph: "K2 with the first edge 2",
         given: K2,
-        holds: &[Is(&[Covered]), Number(Size, 1)],
+        holds: &[Is(&[Loopless, Covered]), Number(Size, 1)],
         fails: &[Number(Size, 2)],
     },
 ];

@@ -10,6 +10,7 @@ use std::test::Fail;
 static COLOURINGS: [Row; 2] = [
     Row {
         premises: &["fractional_law: `colouring`: wide odd cuts; regular"],
+        without: &["fractional_law.colouring: HasWideOddCuts"],
         graph: "the cubic graph with the edges 12, 13, 23, 23, 45, 46, 56, 56, 14",
         given: BRIDGED,
         holds: &[Is(&[Loopless]), Number(Regular, 3), Overused(&[9], 1, 3)],
@@ -17,6 +18,7 @@ static COLOURINGS: [Row; 2] = [
     },
     Row {
         premises: &["fractional_law: `colouring`: wide odd cuts; regular"],
+        without: &["fractional_law.colouring: IsRegular"],
         graph: "the star K1,3 with doubled edges, r = 2",
         given: DOUBLED_STAR,
         holds: &[Is(&[Loopless]), Number(WideOddCuts, 2), Overused(&[], 1, 2)],

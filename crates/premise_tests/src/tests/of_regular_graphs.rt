@@ -17,6 +17,11 @@ use std::test::Fail;
 static COVERED: [Row; 6] = [
     Row {
         premises: &["regular_law: `allowed`, `covered`, `tight`: wide odd cuts"],
+        without: &[
+            "regular_law.allowed: HasWideOddCuts",
+            "regular_law.covered: HasWideOddCuts",
+            "regular_law.tight: HasWideOddCuts",
+        ],
         graph: "the cubic graph with the edges 12, 13, 23, 23, 45, 46, 56, 56, 14",
         given: BRIDGED,
         holds: &[
@@ -34,6 +39,10 @@ static COVERED: [Row; 6] = [
     },
     Row {
         premises: &["regular_law: `allowed`, `covered`: regular"],
+        without: &[
+            "regular_law.allowed: IsRegular",
+            "regular_law.covered: IsRegular",
+        ],
         graph: "the star K1,3 with doubled edges, r = 2",
         given: DOUBLED_STAR,
         holds: &[
@@ -45,6 +54,7 @@ static COVERED: [Row; 6] = [
     },
     Row {
         premises: &["regular_law: `covered`: connected; two vertices"],
+        without: &["regular_law.covered: IsConnected"],
         graph: "two disjoint copies of K4",
         given: DISJOINT_K4,
         holds: &[
@@ -60,6 +70,10 @@ static COVERED: [Row; 6] = [
             "regular_law: `covered`: connected; two vertices",
             "cubic_law: `covered`: two vertices",
         ],
+        without: &[
+            "regular_law.covered: 2 ≤ g.order",
+            "cubic_law.covered: 2 ≤ g.order",
+        ],
         graph: "the empty graph",
         given: EMPTY,
         holds: &[
@@ -73,6 +87,12 @@ static COVERED: [Row; 6] = [
         premises: &[
             "regular_law: `tight`, `wide`: regular",
             "cubic_law: `wide`, `essential`: cubic",
+        ],
+        without: &[
+            "regular_law.tight: IsRegular",
+            "regular_law.wide: IsRegular",
+            "cubic_law.wide: IsCubic",
+            "cubic_law.essential: IsCubic",
         ],
         graph: "two copies of K4 sharing an edge",
         given: TWO_K4,
@@ -94,6 +114,10 @@ static COVERED: [Row; 6] = [
             "regular_law: `wide`: more than r",
             "cubic_law: `wide`: four edges",
         ],
+        without: &[
+            "regular_law.wide: r + 1 ≤ cut_size g x",
+            "cubic_law.wide: 4 ≤ cut_size g x",
+        ],
         graph: "the hexagon with every other edge doubled",
         given: DOUBLED_HEXAGON,
         holds: &[
@@ -113,6 +137,7 @@ static SIDES: [Row; 3] = [
             "regular_law: `bipartite`: bipartite; regular; no loop",
             "cubic_law: `sides`: bipartite",
         ],
+        without: &["regular_law.bipartite: IsSide", "cubic_law.sides: IsSide"],
         graph: "the cubic graph",
         given: BRIDGED,
         holds: &[Is(&[Loopless, Connected]), Number(Regular, 3)],
@@ -120,6 +145,7 @@ static SIDES: [Row; 3] = [
     },
     Row {
         premises: &["regular_law: `bipartite`: bipartite; regular; no loop"],
+        without: &["regular_law.bipartite: IsRegular"],
         graph: "the path with three vertices, r = 2",
         given: PATH_OF_3,
         holds: &[Is(&[Loopless]), Set(&[Side], &[2])],
@@ -129,6 +155,10 @@ static SIDES: [Row; 3] = [
         premises: &[
             "regular_law: `bipartite`: bipartite; regular; no loop",
             "cubic_law: `sides`: no loop",
+        ],
+        without: &[
+            "regular_law.bipartite: IsMultigraph",
+            "cubic_law.sides: IsMultigraph",
         ],
         graph: "K2 with a loop at each vertex",
         given: K2_WITH_LOOPS,
@@ -143,6 +173,7 @@ static NARROW: [Row; 4] = [
             "regular_law: `narrow`: bipartite; regular; odd; r ≥ 1",
             "cubic_law: `narrow`: bipartite",
         ],
+        without: &["regular_law.narrow: IsSide", "cubic_law.narrow: IsSide"],
         graph: "the prism",
         given: PRISM,
         holds: &[
@@ -158,6 +189,7 @@ static NARROW: [Row; 4] = [
             "regular_law: `narrow`: bipartite; regular; odd; r ≥ 1",
             "cubic_law: `narrow`: cubic",
         ],
+        without: &["regular_law.narrow: IsRegular", "cubic_law.narrow: IsCubic"],
         graph: "the ladder with three rungs",
         given: LADDER,
         holds: &[
@@ -170,6 +202,7 @@ static NARROW: [Row; 4] = [
     },
     Row {
         premises: &["regular_law: `narrow`: bipartite; regular; odd; r ≥ 1"],
+        without: &["regular_law.narrow: is_odd (count g.order x) ≡ true"],
         graph: "the 4-cycle with {1, 2}",
         given: FOUR_CYCLE,
         holds: &[
@@ -183,6 +216,7 @@ static NARROW: [Row; 4] = [
     // here r = 0, and the premise is that there are edges at a vertex
     Row {
         premises: &["regular_law: `narrow`: bipartite; regular; odd; r ≥ 1"],
+        without: &["regular_law.narrow: 1 ≤ r"],
         graph: "three isolated vertices",
         given: THREE_ISOLATED,
         holds: &[
@@ -202,6 +236,7 @@ static BRACES: [Row; 4] = [
             "regular_law: `brace`: bipartite; regular; r ≥ 1",
             "cubic_law: `brace`: bipartite",
         ],
+        without: &["regular_law.brace: IsSide", "cubic_law.brace: IsSide"],
         graph: "the prism",
         given: PRISM,
         holds: &[Is(&[Loopless]), Number(Regular, 3), Number(OddCut, 3)],
@@ -214,6 +249,7 @@ static BRACES: [Row; 4] = [
             "regular_law: `brace`: bipartite; regular; r ≥ 1",
             "cubic_law: `brace`: cubic",
         ],
+        without: &["regular_law.brace: IsRegular", "cubic_law.brace: IsCubic"],
         graph: "the hexagon",
         given: HEXAGON,
         holds: &[Is(&[Loopless, Composite]), Set(&[Side], &[1, 3, 5])],
@@ -221,6 +257,7 @@ static BRACES: [Row; 4] = [
     },
     Row {
         premises: &["regular_law: `brace`: bipartite; regular; r ≥ 1"],
+        without: &["regular_law.brace: 1 ≤ r"],
         graph: "seven isolated vertices",
         given: SEVEN_ISOLATED,
         holds: &[
@@ -233,6 +270,7 @@ static BRACES: [Row; 4] = [
     },
     Row {
         premises: &["regular_law: `cubic`: cubic"],
+        without: &["regular_law.cubic: IsCubic"],
         graph: "the hexagon",
         given: HEXAGON,
         holds: &[Is(&[Loopless, TwoEdgeConnected, Connected])],

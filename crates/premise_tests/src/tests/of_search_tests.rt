@@ -12,6 +12,7 @@ use std::test::Fail;
 static TESTS: [Row; 3] = [
     Row {
         premises: &["brace_test_law: `brace_test_law`: a side; perfect"],
+        without: &["brace_test_law: IsSide"],
         graph: "two copies of K4 on 1 2 3 4 and on 1 2 5 6, x = {1, 3, 5} and m = {12, 34, 56}",
         given: TWO_K4,
         holds: &[
@@ -23,6 +24,7 @@ static TESTS: [Row; 3] = [
     },
     Row {
         premises: &["brace_test_law: `brace_test_law`: a side; perfect"],
+        without: &["brace_test_law: IsPerfect"],
         graph: "K3,3 with one edge in m",
         given: K33,
         holds: &[
@@ -38,6 +40,7 @@ static TESTS: [Row; 3] = [
     },
     Row {
         premises: &["brace_test_law: `brick_test_law`: not bipartite"],
+        without: &["brick_test_law: ¬ (IsBipartite g)"],
         graph: "K3,3",
         given: K33,
         holds: &[Is(&[Loopless, Covered])],

@@ -10,6 +10,7 @@ use std::test::Fail;
 static ROWS: [Row; 4] = [
     Row {
         premises: &["separating_law: `meets`: connected"],
+        without: &["separating_law.meets: IsConnected"],
         graph: "two disjoint edges, where X is one vertex",
         given: TWO_EDGES,
         holds: &[Set(&[Proper, MetOnce], &[1])],
@@ -17,6 +18,7 @@ static ROWS: [Row; 4] = [
     },
     Row {
         premises: &["separating_law: `meets`: X is a proper subset"],
+        without: &["separating_law.meets: mem x v ≡ false"],
         graph: "K1 with X = V(G)",
         given: ONE_VERTEX,
         holds: &[Is(&[Connected]), Set(&[MetOnce], &[1])],
@@ -24,6 +26,7 @@ static ROWS: [Row; 4] = [
     },
     Row {
         premises: &["separating_law: `tight`: matching covered"],
+        without: &["separating_law.tight: IsCovered"],
         graph: "the path with four vertices and its first vertex",
         given: PATH_OF_4,
         holds: &[Set(&[Tight], &[1])],
@@ -31,6 +34,7 @@ static ROWS: [Row; 4] = [
     },
     Row {
         premises: &["separating_law: `bipartite`: the graph is bipartite"],
+        without: &["separating_law.bipartite: IsSide"],
         graph: "the prism",
         given: PRISM,
         holds: &[Is(&[Covered]), Set(&[Proper, Separating], &[1, 2, 3])],

@@ -11,6 +11,7 @@ use std::test::Fail;
 static HALL: [Row; 2] = [
     Row {
         premises: &["hall_law: A is a side"],
+        without: &["hall_law: IsSide"],
         graph: "the triangle, where A contains all its vertices",
         given: TRIANGLE,
         holds: &[Is(&[Loopless]), Set(&[Hall], &[1, 2, 3])],
@@ -18,6 +19,7 @@ static HALL: [Row; 2] = [
     },
     Row {
         premises: &["hall_law: no loop"],
+        without: &["hall_law: IsMultigraph"],
         graph: "two vertices and one edge, a loop at the vertex of A",
         given: ONE_LOOP,
         holds: &[Set(&[Side, Hall], &[1])],
@@ -28,6 +30,7 @@ static HALL: [Row; 2] = [
 static COVERS: [Row; 4] = [
     Row {
         premises: &["koenig_law: `equal`: bipartite; no loop"],
+        without: &["koenig_law.equal: IsSide"],
         graph: "the triangle",
         given: TRIANGLE,
         holds: &[Is(&[Loopless])],
@@ -35,6 +38,7 @@ static COVERS: [Row; 4] = [
     },
     Row {
         premises: &["koenig_law: `equal`: bipartite; no loop"],
+        without: &["koenig_law.equal: IsMultigraph"],
         graph: "two vertices and one edge, a loop",
         given: ONE_LOOP,
         holds: &[Set(&[Side], &[1])],
@@ -42,6 +46,7 @@ static COVERS: [Row; 4] = [
     },
     Row {
         premises: &["koenig_law: `below`: a matching; a vertex cover"],
+        without: &["koenig_law.below: IsMatching"],
         graph: "two parallel edges and one of their ends",
         given: TWO_PARALLEL,
         holds: &[Set(&[Cover], &[1])],
@@ -49,6 +54,7 @@ static COVERS: [Row; 4] = [
     },
     Row {
         premises: &["koenig_law: `below`: a matching; a vertex cover"],
+        without: &["koenig_law.below: IsVertexCover"],
         graph: "K2 with its edge and no vertex",
         given: K2,
         holds: &[Edges(Matching, &[1])],

@@ -12,6 +12,7 @@ static WEIGHTS: [Row; 4] = [
     // the edges of the cut of {1, 3, 4}
     Row {
         premises: &["potential_law: `potential`: no nontrivial tight cut"],
+        without: &["potential_law.potential: HasOnlyTrivialTightCuts"],
         graph: "two copies of K4 sharing an edge",
         given: TWO_K4,
         holds: &[
@@ -24,6 +25,10 @@ static WEIGHTS: [Row; 4] = [
     // its order is odd, so there is no tight cut at all
     Row {
         premises: &["potential_law: `balanced`, `potential`: matching covered"],
+        without: &[
+            "potential_law.balanced: IsCovered",
+            "potential_law.potential: IsCovered",
+        ],
         graph: "the cycle 1 2 3 4 and an isolated vertex",
         given: CYCLE_AND_VERTEX,
         holds: &[Is(&[Loopless, Uncut]), Weight(&[Flat], &[1])],
@@ -36,6 +41,10 @@ static WEIGHTS: [Row; 4] = [
     // its loops are in no cut
     Row {
         premises: &["potential_law: `balanced`, `potential`: no loop"],
+        without: &[
+            "potential_law.balanced: IsMultigraph",
+            "potential_law.potential: IsMultigraph",
+        ],
         graph: "K2 with two loops at one vertex",
         given: K2_WITH_TWO_LOOPS,
         holds: &[Is(&[Covered, Uncut]), Weight(&[Flat], &[3])],
@@ -47,6 +56,10 @@ static WEIGHTS: [Row; 4] = [
     // its tight cuts are stars, which numbers of the vertices take in
     Row {
         premises: &["potential_law: `balanced`, `potential`: twice the weight"],
+        without: &[
+            "potential_law.balanced: 2 * (w e + k)",
+            "potential_law.potential: 2 * (w e + k)",
+        ],
         graph: "K4",
         given: K4,
         holds: &[

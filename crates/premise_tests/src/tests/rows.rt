@@ -6,12 +6,15 @@ use super::pair_graph::PairGraph;
 use std::alloc::{AllocError as Memory, Global};
 use std::test::Fail;
 
-/// Premises of theorems, as `docs/THEOREMS.md` words them after the theorem's name; a graph without
-/// them, as those rows of the book name it, what they say of single sets aside; claims that hold of
-/// the graph, and claims that do not. The first that fails is each of the premises. The others of
-/// both kinds are the further premises and the two sides of the sentences, which do not agree.
+/// Premises of theorems, as `docs/THEOREMS.md` words them after the theorem's name; the same by
+/// their names in the contracts, `LAW.CLAUSE: PREMISE`, where a premise is named by its definition
+/// or by a part of its formula; a graph without them, as those rows of the book name it, what they
+/// say of single sets aside; claims that hold of the graph, and claims that do not. The first that
+/// fails is each of the premises; if the premises are two, the first two. The others of both kinds
+/// are the further premises and the two sides of the sentences, which do not agree.
 pub struct Row {
     pub premises: &'static [&'static str],
+    pub without: &'static [&'static str],
     pub graph: &'static str,
     pub given: Given,
     pub holds: &'static [Claim],
