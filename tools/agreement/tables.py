@@ -22,9 +22,9 @@ SECTIONS = {"Graph": "Graph format", "Tree": "Derivation format", "Picks": "Pick
 # The abbreviations of the usage that the manual page writes out.
 WRITTEN_OUT = {"first | last | balanced": "ORDER"}
 # The files that name no kit.
-KITLESS = ("*.md", "docs/**/*.md", "share/man/man1/*", "crates/*/src/**/*.rt", "crates/*/specs/**/*.antt")
+KITLESS = ("*.md", "docs/**/*.md", "share/man/man1/*", "crates/front_words/src/*.rt", "crates/command_table/src/*.rt")
 # What is compared, and at least how many of each.
-LEAST = {"rows": 18, "pages": 17, "arguments": 20, "ranges": 2, "kinds": 15, "headers": 6, "limits": 7, "versions": 2, "logics": 4, "files": 800}
+LEAST = {"rows": 18, "pages": 17, "arguments": 20, "ranges": 2, "kinds": 15, "headers": 6, "limits": 7, "versions": 2, "logics": 4, "files": 50}
 # The text for a kind of error that a format does not have.
 UNSAID = "FAULT_OTHER"
 compared = collections.Counter()
