@@ -142,7 +142,7 @@ def reported(command: str, status: Optional[int] = None) -> Iterator[None]:
 
 
 def run(command: str, words: List[str], files: Dict[str, str]) -> Tuple[int, List[str]]:
-    """Runs `mcg COMMAND WORDS..` and returns its status, 0 or 1, and the lines of the report.
+    """Runs `mcg COMMAND ARGUMENT...` and returns its status, 0 or 1, and the lines of the report.
 
     `files` has the text of each file that the words name. Raises `BadGraph`, `TooLarge` or
     `BadText` for a file outside its format, and `OutOfMemory`, `ProgramMissing` or

@@ -4,12 +4,16 @@ The tables of commands and the pages of the commands are in crates/command_table
 functions that choose among them, and the versions are in crates/front_words/src. The rows of the usage of mcg are compared with the table of README, the synopsis of its manual page and its
 completion for bash; those of mcg6, with its properties, with its manual page, its completion, the table of FORMATS and the words that
 mcg6_top reads; each page with the rows of its command; the words for kinds of errors with the table of FORMATS; the headers and limits
-with the sections of FORMATS; the versions with VERSION, and the kit's line with README. It lists each that differs, and ends with 1 if
+with the sections of FORMATS; the versions with VERSION; and the logic that they name with README, CONTRIBUTING and, where the kit is
+there, what `rt version` prints. The name of a kit, which another machine has under another, stands in the records of GATE alone. It lists each that differs, and ends with 1 if
 there is any. It counts what it compared: fewer than `LEAST` of a kind is an error too, since then it has looked for something that the
 sources have in another form by now.
 """
 import collections
+import glob
 import re
+import shutil
+import subprocess
 
 import messages
 
@@ -17,8 +21,10 @@ import messages
 SECTIONS = {"Graph": "Graph format", "Tree": "Derivation format", "Picks": "Pick format", "Ears": "Ear format", "Moves": "Move format"}
 # The abbreviations of the usage that the manual page writes out.
 WRITTEN_OUT = {"first | last | balanced": "ORDER"}
+# The files that name no kit.
+KITLESS = ("*.md", "docs/**/*.md", "share/man/man1/*", "crates/front_words/src/*.rt", "crates/command_table/src/*.rt")
 # What is compared, and at least how many of each.
-LEAST = {"rows": 18, "pages": 17, "arguments": 20, "ranges": 2, "kinds": 15, "headers": 6, "limits": 7, "versions": 2}
+LEAST = {"rows": 18, "pages": 17, "arguments": 20, "ranges": 2, "kinds": 15, "headers": 6, "limits": 7, "versions": 2, "logics": 4, "files": 50}
 # The text for a kind of error that a format does not have.
 UNSAID = "FAULT_OTHER"
 compared = collections.Counter()
@@ -238,6 +244,18 @@ def compare_pages(table):
     return count
 
 
+def compare_logic(program, logic):
+    """Compares the line of a program on the logic with the documents that name it, and with the kit, if it is there."""
+    for document in ("README.md", "CONTRIBUTING.md"):
+        names = re.findall(r"logic `?([0-9a-f]{16})\b", read(document))
+        compared["logics"] += len(names)
+        same(f"the logic of {document}, and that of {program}", [logic] * max(len(names), 1), [f"logic {it}" for it in names])
+    if shutil.which("rt"):
+        compared["logics"] += 1
+        told = subprocess.run(["rt", "version"], capture_output=True, text=True, check=False).stdout.split()
+        same(f"the logic of `rt version`, and that of {program}", logic, " ".join(told[-2:]))
+
+
 def main():
     table, faults = read("crates/command_table/src/table.rt"), read("crates/front_words/src/faults.rt")
     versions = read("crates/front_words/src/table.rt")
@@ -249,9 +267,13 @@ def main():
     compare_faults(faults, messages.constants(messages.TEXTS), formats)
     for name, which in (("mcg", "VERSION"), ("mcg6", "LIST_VERSION")):
         compared["versions"] += 1
-        version, kit = constant(versions, which).splitlines()
+        version, logic = constant(versions, which).splitlines()
         same(f"VERSION, and what {name} says", version, f"{name} {read('VERSION').strip()}")
-        same("the kit's line of README", kit, re.search(r"`(rattle-kit-\S+ logic \w+)`", readme)[1])
+        compare_logic(name, logic)
+    for path in (it for form in KITLESS for it in glob.glob(form, recursive=True) if it != "docs/dev/GATE.md"):
+        compared["files"] += 1
+        if re.search(r"rattle-kit-\d", read(path)):
+            wrong.append(f"{path} names a kit")
     wrong.extend(f"compared {compared[it]} {it}, fewer than {least}: does tables.py still find them?" for it, least in LEAST.items() if compared[it] < least)
     counted = ", ".join(f"{compared[it]} {it}" for it in LEAST)
     print("\n".join(wrong) if wrong else f"tables: {counted}: the words of the fronts agree with the documents")

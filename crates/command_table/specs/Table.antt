@@ -109,16 +109,16 @@ what = one_of (codes "WHAT") properties counted_properties (codes "WHAT: covered
 unfoldable pub rows : List Row
 rows =
     row_with (codes "analyse") file [] (codes "the structure of the graph in FILE") ∷
-    row_with (codes "convert") file [] (codes "its canonical text, with names for the vertices") ∷
+    row_with (codes "convert") file [] (codes "the graph in canonical form, with names for the vertices") ∷
     row_with (codes "analyse6") file [] (codes "what analyse reports, for a graph in graph6") ∷
-    row_with (codes "decompose") (File (codes "FILE") (codes "a FILE") ∷ one_of (codes "ORDER") orders [] (codes "an ORDER after FILE: first, last, balanced, or script PICKS") ∷ []) [] (codes "a decomposition by tight cuts into bricks and braces") ∷
-    row_with (codes "decompose") (File (codes "FILE") (codes "a FILE") ∷ Literal (codes "script") ∷ file_after (codes "script") (codes "PICKS") ∷ []) [] (codes "the same, the cuts picked by the numbers in PICKS") ∷
-    row_with (codes "check") (File (codes "FILE") (codes "a FILE") ∷ file_after (codes "FILE") (codes "TREE") ∷ []) [] (codes "whether TREE is a derivation of the graph") ∷
-    row_with (codes "checkears") (File (codes "FILE") (codes "a FILE") ∷ file_after (codes "FILE") (codes "EARS") ∷ []) [] (codes "whether EARS is an ear list of the graph") ∷
-    row_with (codes "ears") file [] (codes "an ear list of the graph") ∷
-    row_with (codes "compare") (File (codes "FILE") (codes "a FILE") ∷ file_after (codes "FILE") (codes "TREE1") ∷ file_after (codes "TREE1") (codes "TREE2") ∷ []) [] (codes "how the leaves of two derivations are paired, with moves") ∷
-    row_with (codes "script") (File (codes "FILE") (codes "a FILE") ∷ file_after (codes "FILE") (codes "TREE1") ∷ file_after (codes "TREE1") (codes "TREE2") ∷ []) [] (codes "these moves as a file") ∷
-    row_with (codes "replay") (File (codes "FILE") (codes "a FILE") ∷ file_after (codes "FILE") (codes "TREE") ∷ file_after (codes "TREE") (codes "MOVES") ∷ []) [] (codes "the derivation that the moves make of TREE") ∷
+    row_with (codes "decompose") (File (codes "FILE") (codes "a FILE") ∷ one_of (codes "ORDER") orders [] (codes "an ORDER after FILE: first, last, balanced, or script PICKS") ∷ []) [] (codes "a tight cut decomposition into bricks and braces") ∷
+    row_with (codes "decompose") (File (codes "FILE") (codes "a FILE") ∷ Literal (codes "script") ∷ file_after (codes "script") (codes "PICKS") ∷ []) [] (codes "the same, with cuts chosen by PICKS") ∷
+    row_with (codes "check") (File (codes "FILE") (codes "a FILE") ∷ file_after (codes "FILE") (codes "TREE") ∷ []) [] (codes "whether TREE is a tight cut decomposition of the graph") ∷
+    row_with (codes "checkears") (File (codes "FILE") (codes "a FILE") ∷ file_after (codes "FILE") (codes "EARS") ∷ []) [] (codes "whether EARS is an ear decomposition of the graph") ∷
+    row_with (codes "ears") file [] (codes "an ear decomposition of the graph") ∷
+    row_with (codes "compare") (File (codes "FILE") (codes "a FILE") ∷ file_after (codes "FILE") (codes "TREE1") ∷ file_after (codes "TREE1") (codes "TREE2") ∷ []) [] (codes "a pairing of the leaves of two decompositions, with moves") ∷
+    row_with (codes "script") (File (codes "FILE") (codes "a FILE") ∷ file_after (codes "FILE") (codes "TREE1") ∷ file_after (codes "TREE1") (codes "TREE2") ∷ []) [] (codes "the moves that compare lists, as a file") ∷
+    row_with (codes "replay") (File (codes "FILE") (codes "a FILE") ∷ file_after (codes "FILE") (codes "TREE") ∷ file_after (codes "TREE") (codes "MOVES") ∷ []) [] (codes "the decomposition that the moves turn TREE into") ∷
     row_with (codes "grow") (number_from (codes "SEED") 0 999_999_999 (codes "a SEED and PIECES") ∷ number_from (codes "PIECES") 1 16 (codes "PIECES after SEED, 1 to 16") ∷ []) [] (codes "a pseudo-random matching covered cubic graph") ∷ []
 
 -- the words after a query of a list that may have bad lines
@@ -129,21 +129,21 @@ skip_file = Literal (codes "skip") ∷ file
 unfoldable pub list_rows : List Row
 list_rows =
     row_with (codes "kinds") [] skip_file (codes "a line for each graph: its kind, its bricks and its braces") ∷
-    row_with (codes "leaves") [] (one_of (codes "ORDER") orders [] (codes "an ORDER") ∷ skip_file) (codes "a line for each leaf of its decomposition, as a graph") ∷
+    row_with (codes "leaves") [] (one_of (codes "ORDER") orders [] (codes "an ORDER") ∷ skip_file) (codes "a line for each leaf of a decomposition, as a graph") ∷
     row_with (codes "elementary") [] skip_file (codes "a line for each elementary component, as a graph") ∷
     row_with (codes "matching") [] skip_file (codes "a line for each graph: a maximum matching, and D, A and C") ∷
-    row_with (codes "cuts") [] skip_file (codes "a line for each candidate for a tight cut") ∷
+    row_with (codes "cuts") [] skip_file (codes "a line for each tight cut that decompose may take first") ∷
     row_with (codes "ears") [] skip_file (codes "a line for each graph: an ear decomposition") ∷
-    row_with (codes "graph") [] file (codes "the file of one graph, for mcg") ∷
+    row_with (codes "graph") [] file (codes "the graph file of one graph, for mcg") ∷
     row_with (codes "select") (what ∷ []) skip_file (codes "the lines whose graph has a property") ∷
-    row_with (codes "encode") file [] (codes "the line of a file for mcg; parallel edges count once") ∷ []
+    row_with (codes "encode") file [] (codes "the graph6 text of a graph file; parallel edges count once") ∷ []
 
 -- the usage of `mcg`, and that of `mcg6`
 unfoldable pub usage_text : List ℕ
-usage_text = usage_of (codes "usage: mcg COMMAND WORDS..\n") rows (codes "A file may be a pipe, as /dev/stdin. FORMATS.md has the formats and reports.\n")
+usage_text = usage_of (codes "usage: mcg COMMAND ARGUMENT...\n") rows (codes "A file may be a pipe, such as /dev/stdin. FORMATS.md describes the formats and reports.\n")
 
 -- the usage of `mcg6`
 unfoldable pub list_usage_text : List ℕ
 list_usage_text =
-    usage_of (codes "usage: mcg6 COMMAND WORDS.. <LIST\n") list_rows
-    (codes "The list has a graph in graph6 on each line, and is standard input or FILE.\nWith skip, bad lines are left out and named on standard error.\nFORMATS.md has the lines that mcg6 writes.\n")
+    usage_of (codes "usage: mcg6 COMMAND [ARGUMENT]... <LIST\n") list_rows
+    (codes "The list is standard input or FILE, with a graph in graph6 on each line.\nWith skip, bad lines are left out and named on standard error.\nFORMATS.md describes the lines that mcg6 writes.\n")

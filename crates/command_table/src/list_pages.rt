@@ -19,7 +19,7 @@ Example: mcg6 kinds examples/small.g6
 
 /// The page of `leaves`.
 pub const LEAVES: &str =
-    "  leaves [ORDER] [skip] [FILE] a line for each leaf of its decomposition, as a graph
+    "  leaves [ORDER] [skip] [FILE] a line for each leaf of a decomposition, as a graph
 
 The list has a graph in graph6 on each line, and is FILE or, without it, standard input.
 With skip, bad lines are left out and named at the end; the status is then 4.
@@ -58,7 +58,8 @@ Example: mcg6 matching examples/small.g6
 ";
 
 /// The page of `cuts`.
-pub const CUTS: &str = "  cuts [skip] [FILE]           a line for each candidate for a tight cut
+pub const CUTS: &str =
+    "  cuts [skip] [FILE]           a line for each tight cut that decompose may take first
 
 The list has a graph in graph6 on each line, and is FILE or, without it, standard input.
 With skip, bad lines are left out and named at the end; the status is then 4.
@@ -79,14 +80,14 @@ With skip, bad lines are left out and named at the end; the status is then 4.
 A line has the number of the graph's line, its graph6 text, the numbers of steps with one
 ear and with two, the first edge as A-B, and the steps. An ear is its vertices joined by
 hyphens; the two ears of a step are joined by +. A step has two ears only where no ear
-decomposition goes on by a single ear. Any such ear decomposition may be written. Graphs
-that are not matching covered have no lines.
+decomposition continues with a single ear. Any such ear decomposition may be written.
+Graphs that are not matching covered have no lines.
 
 Example: mcg6 ears examples/small.g6
 ";
 
 /// The page of `graph`.
-pub const GRAPH: &str = "  graph [FILE]                 the file of one graph, for mcg
+pub const GRAPH: &str = "  graph [FILE]                 the graph file of one graph, for mcg
 
 The list has one graph in graph6, and is FILE or, without it, standard input.
 The output is a graph file: p mcg N M and M lines e A B, or p mcg2 N M with names for a
@@ -109,7 +110,7 @@ Example: mcg6 select brick examples/small.g6
 
 /// The page of `encode`.
 pub const ENCODE: &str =
-    "  encode FILE                  the line of a file for mcg; parallel edges count once
+    "  encode FILE                  the graph6 text of a graph file; parallel edges count once
 
 FILE is a graph file: p mcg N M and M lines e A B, or p mcg2 N M with names.
 The output is one line: the graph6 text of the underlying simple graph. Names are

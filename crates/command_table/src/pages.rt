@@ -17,7 +17,7 @@ Example: mcg analyse examples/two_k4.mcg
 
 /// The page of `convert`.
 pub const CONVERT: &str =
-    "  convert FILE                 its canonical text, with names for the vertices
+    "  convert FILE                 the graph in canonical form, with names for the vertices
 
 FILE is a graph file: p mcg N M and M lines e A B, or p mcg2 N M with names.
 The report is the same graph in the form p mcg2 N M. Vertices without names become v1,
@@ -38,8 +38,8 @@ Example: mcg analyse6 examples/petersen.g6
 
 /// The page of `decompose`.
 pub const DECOMPOSE: &str =
-    "  decompose FILE ORDER         a decomposition by tight cuts into bricks and braces
-  decompose FILE script PICKS  the same, the cuts picked by the numbers in PICKS
+    "  decompose FILE ORDER         a tight cut decomposition into bricks and braces
+  decompose FILE script PICKS  the same, with cuts chosen by PICKS
 
 FILE is a graph file. ORDER is first, last or balanced, and says which of the nontrivial
 tight cuts that the search finds is taken. PICKS is a file s mcg K with K lines pick P,
@@ -51,7 +51,8 @@ Example: mcg decompose examples/two_k4.mcg first >two_k4.tree
 ";
 
 /// The page of `check`.
-pub const CHECK: &str = "  check FILE TREE              whether TREE is a derivation of the graph
+pub const CHECK: &str =
+    "  check FILE TREE              whether TREE is a tight cut decomposition of the graph
 
 FILE is a graph file, and TREE a tree of cuts, t mcg N, as decompose writes it.
 The report is the line accepted with the numbers of leaves, bricks and braces; or it
@@ -61,7 +62,8 @@ Example: mcg check examples/two_k4.mcg examples/two_k4_first.tree
 ";
 
 /// The page of `checkears`.
-pub const CHECKEARS: &str = "  checkears FILE EARS          whether EARS is an ear list of the graph
+pub const CHECKEARS: &str =
+    "  checkears FILE EARS          whether EARS is an ear decomposition of the graph
 
 FILE is a graph file, and EARS an ear decomposition, r mcg N M, as ears writes it.
 The report is the line accepted with the numbers of steps; or it names the first step
@@ -71,7 +73,7 @@ Example: mcg ears examples/k4.mcg | mcg checkears examples/k4.mcg /dev/stdin
 ";
 
 /// The page of `ears`.
-pub const EARS: &str = "  ears FILE                    an ear list of the graph
+pub const EARS: &str = "  ears FILE                    an ear decomposition of the graph
 
 FILE is a graph file.
 The report is an ear decomposition, r mcg N M, which checkears reads. A graph that is
@@ -82,7 +84,7 @@ Example: mcg ears examples/k4.mcg
 
 /// The page of `compare`.
 pub const COMPARE: &str =
-    "  compare FILE TREE1 TREE2     how the leaves of two derivations are paired, with moves
+    "  compare FILE TREE1 TREE2     a pairing of the leaves of two decompositions, with moves
 
 FILE is a graph file, and TREE1 and TREE2 are trees of cuts, t mcg N, as decompose
 writes them.
@@ -94,7 +96,7 @@ Example: mcg compare examples/two_k4.mcg examples/two_k4_first.tree examples/two
 ";
 
 /// The page of `script`.
-pub const SCRIPT: &str = "  script FILE TREE1 TREE2      these moves as a file
+pub const SCRIPT: &str = "  script FILE TREE1 TREE2      the moves that compare lists, as a file
 
 FILE is a graph file, and TREE1 and TREE2 are trees of cuts, t mcg N, as decompose
 writes them.
@@ -105,7 +107,8 @@ Example: mcg script examples/two_k4.mcg examples/two_k4_first.tree examples/two_
 ";
 
 /// The page of `replay`.
-pub const REPLAY: &str = "  replay FILE TREE MOVES       the derivation that the moves make of TREE
+pub const REPLAY: &str =
+    "  replay FILE TREE MOVES       the decomposition that the moves turn TREE into
 
 FILE is a graph file, TREE a tree of cuts, t mcg N, as decompose writes it, and MOVES a
 file of moves, m mcg N, as script writes it.

@@ -17,7 +17,7 @@ static ROWS: [Row; 12] = [
         command: "convert",
         words: &[RowWord::File("FILE", "a FILE")],
         optional: &[],
-        line: "  convert FILE                 its canonical text, with names for the vertices\n",
+        line: "  convert FILE                 the graph in canonical form, with names for the vertices\n",
     },
     Row {
         command: "analyse6",
@@ -38,7 +38,7 @@ static ROWS: [Row; 12] = [
             ),
         ],
         optional: &[],
-        line: "  decompose FILE ORDER         a decomposition by tight cuts into bricks and braces\n",
+        line: "  decompose FILE ORDER         a tight cut decomposition into bricks and braces\n",
     },
     Row {
         command: "decompose",
@@ -48,7 +48,7 @@ static ROWS: [Row; 12] = [
             RowWord::File("PICKS", "a file PICKS after script"),
         ],
         optional: &[],
-        line: "  decompose FILE script PICKS  the same, the cuts picked by the numbers in PICKS\n",
+        line: "  decompose FILE script PICKS  the same, with cuts chosen by PICKS\n",
     },
     Row {
         command: "check",
@@ -57,7 +57,7 @@ static ROWS: [Row; 12] = [
             RowWord::File("TREE", "a file TREE after FILE"),
         ],
         optional: &[],
-        line: "  check FILE TREE              whether TREE is a derivation of the graph\n",
+        line: "  check FILE TREE              whether TREE is a tight cut decomposition of the graph\n",
     },
     Row {
         command: "checkears",
@@ -66,13 +66,13 @@ static ROWS: [Row; 12] = [
             RowWord::File("EARS", "a file EARS after FILE"),
         ],
         optional: &[],
-        line: "  checkears FILE EARS          whether EARS is an ear list of the graph\n",
+        line: "  checkears FILE EARS          whether EARS is an ear decomposition of the graph\n",
     },
     Row {
         command: "ears",
         words: &[RowWord::File("FILE", "a FILE")],
         optional: &[],
-        line: "  ears FILE                    an ear list of the graph\n",
+        line: "  ears FILE                    an ear decomposition of the graph\n",
     },
     Row {
         command: "compare",
@@ -82,7 +82,7 @@ static ROWS: [Row; 12] = [
             RowWord::File("TREE2", "a file TREE2 after TREE1"),
         ],
         optional: &[],
-        line: "  compare FILE TREE1 TREE2     how the leaves of two derivations are paired, with moves\n",
+        line: "  compare FILE TREE1 TREE2     a pairing of the leaves of two decompositions, with moves\n",
     },
     Row {
         command: "script",
@@ -92,7 +92,7 @@ static ROWS: [Row; 12] = [
             RowWord::File("TREE2", "a file TREE2 after TREE1"),
         ],
         optional: &[],
-        line: "  script FILE TREE1 TREE2      these moves as a file\n",
+        line: "  script FILE TREE1 TREE2      the moves that compare lists, as a file\n",
     },
     Row {
         command: "replay",
@@ -102,7 +102,7 @@ static ROWS: [Row; 12] = [
             RowWord::File("MOVES", "a file MOVES after TREE"),
         ],
         optional: &[],
-        line: "  replay FILE TREE MOVES       the derivation that the moves make of TREE\n",
+        line: "  replay FILE TREE MOVES       the decomposition that the moves turn TREE into\n",
     },
     Row {
         command: "grow",
@@ -149,7 +149,7 @@ static LIST_ROWS: [Row; 9] = [
             RowWord::Literal("skip"),
             RowWord::File("FILE", "a FILE"),
         ],
-        line: "  leaves [ORDER] [skip] [FILE] a line for each leaf of its decomposition, as a graph\n",
+        line: "  leaves [ORDER] [skip] [FILE] a line for each leaf of a decomposition, as a graph\n",
     },
     Row {
         command: "elementary",
@@ -167,7 +167,7 @@ static LIST_ROWS: [Row; 9] = [
         command: "cuts",
         words: &[],
         optional: &[RowWord::Literal("skip"), RowWord::File("FILE", "a FILE")],
-        line: "  cuts [skip] [FILE]           a line for each candidate for a tight cut\n",
+        line: "  cuts [skip] [FILE]           a line for each tight cut that decompose may take first\n",
     },
     Row {
         command: "ears",
@@ -179,7 +179,7 @@ static LIST_ROWS: [Row; 9] = [
         command: "graph",
         words: &[],
         optional: &[RowWord::File("FILE", "a FILE")],
-        line: "  graph [FILE]                 the file of one graph, for mcg\n",
+        line: "  graph [FILE]                 the graph file of one graph, for mcg\n",
     },
     Row {
         command: "select",
@@ -205,47 +205,47 @@ static LIST_ROWS: [Row; 9] = [
         command: "encode",
         words: &[RowWord::File("FILE", "a FILE")],
         optional: &[],
-        line: "  encode FILE                  the line of a file for mcg; parallel edges count once\n",
+        line: "  encode FILE                  the graph6 text of a graph file; parallel edges count once\n",
     },
 ];
 
 /// The usage: how the program is called, and the table of commands, each with what it is for. A
 /// word in capitals stands for another.
-const USAGE: &str = "usage: mcg COMMAND WORDS..
+const USAGE: &str = "usage: mcg COMMAND ARGUMENT...
   analyse FILE                 the structure of the graph in FILE
-  convert FILE                 its canonical text, with names for the vertices
+  convert FILE                 the graph in canonical form, with names for the vertices
   analyse6 FILE                what analyse reports, for a graph in graph6
-  decompose FILE ORDER         a decomposition by tight cuts into bricks and braces
-  decompose FILE script PICKS  the same, the cuts picked by the numbers in PICKS
-  check FILE TREE              whether TREE is a derivation of the graph
-  checkears FILE EARS          whether EARS is an ear list of the graph
-  ears FILE                    an ear list of the graph
-  compare FILE TREE1 TREE2     how the leaves of two derivations are paired, with moves
-  script FILE TREE1 TREE2      these moves as a file
-  replay FILE TREE MOVES       the derivation that the moves make of TREE
+  decompose FILE ORDER         a tight cut decomposition into bricks and braces
+  decompose FILE script PICKS  the same, with cuts chosen by PICKS
+  check FILE TREE              whether TREE is a tight cut decomposition of the graph
+  checkears FILE EARS          whether EARS is an ear decomposition of the graph
+  ears FILE                    an ear decomposition of the graph
+  compare FILE TREE1 TREE2     a pairing of the leaves of two decompositions, with moves
+  script FILE TREE1 TREE2      the moves that compare lists, as a file
+  replay FILE TREE MOVES       the decomposition that the moves turn TREE into
   grow SEED PIECES             a pseudo-random matching covered cubic graph
 ORDER is first, last or balanced
 SEED is 0 to 999999999
 PIECES is 1 to 16
-A file may be a pipe, as /dev/stdin. FORMATS.md has the formats and reports.
+A file may be a pipe, such as /dev/stdin. FORMATS.md describes the formats and reports.
 ";
 
 /// The usage of the program for lists. A word in brackets may be left out.
-const LIST_USAGE: &str = "usage: mcg6 COMMAND WORDS.. <LIST
+const LIST_USAGE: &str = "usage: mcg6 COMMAND [ARGUMENT]... <LIST
   kinds [skip] [FILE]          a line for each graph: its kind, its bricks and its braces
-  leaves [ORDER] [skip] [FILE] a line for each leaf of its decomposition, as a graph
+  leaves [ORDER] [skip] [FILE] a line for each leaf of a decomposition, as a graph
   elementary [skip] [FILE]     a line for each elementary component, as a graph
   matching [skip] [FILE]       a line for each graph: a maximum matching, and D, A and C
-  cuts [skip] [FILE]           a line for each candidate for a tight cut
+  cuts [skip] [FILE]           a line for each tight cut that decompose may take first
   ears [skip] [FILE]           a line for each graph: an ear decomposition
-  graph [FILE]                 the file of one graph, for mcg
+  graph [FILE]                 the graph file of one graph, for mcg
   select WHAT [skip] [FILE]    the lines whose graph has a property
-  encode FILE                  the line of a file for mcg; parallel edges count once
+  encode FILE                  the graph6 text of a graph file; parallel edges count once
 ORDER is first, last or balanced
 WHAT is covered, uncovered, perfect, brick, brace, bicritical, composite, bricks=K or braces=K
-The list has a graph in graph6 on each line, and is standard input or FILE.
+The list is standard input or FILE, with a graph in graph6 on each line.
 With skip, bad lines are left out and named on standard error.
-FORMATS.md has the lines that mcg6 writes.
+FORMATS.md describes the lines that mcg6 writes.
 ";
 
 /// The rows of the table of `mcg`. Takes no memory.

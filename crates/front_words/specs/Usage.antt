@@ -4,7 +4,8 @@ use Rattle.std.specs.Prelude.{ℕ, List}
 use Rattle.front_words.specs.declared.table.TheConstants.{LIST_VERSION, VERSION}
 unfoldable pub use Rattle.command_table.specs.Table.{list_usage_text, usage_text}
 
--- the version, with the line of the kit
+-- the version, with the logic against which the proofs were checked; `agree_docs tables` compares
+-- its first line with VERSION, and its second with what `rt version` prints
 unfoldable pub version_text : List ℕ
 version_text = VERSION.now
 

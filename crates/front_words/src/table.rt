@@ -2,14 +2,14 @@
 ghost use Rattle.std.specs.Prelude.{◌≡◌};
 ghost use Rattle.front_words.specs.Usage.{list_version_text, version_text};
 
-/// The version, and the kit that it is proved with.
+/// The version, and the logic against which the proofs were checked.
 pub const VERSION: &str = "mcg 0.3.0
-rattle-kit-13f logic dac8208d650f15bf
+logic dac8208d650f15bf
 ";
 
-/// The version of the program for lists, and the kit that it is proved with.
+/// The version of the program for lists, and the logic against which the proofs were checked.
 pub const LIST_VERSION: &str = "mcg6 0.3.0
-rattle-kit-13f logic dac8208d650f15bf
+logic dac8208d650f15bf
 ";
 
 /// The version. Takes no memory.

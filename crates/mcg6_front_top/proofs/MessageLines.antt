@@ -113,21 +113,21 @@ unfolding list_rows
 rows-end = (
   row-ends (codes "kinds") [] skip_file (codes "a line for each graph: its kind, its bricks and its braces"),
   (
-    row-ends (codes "leaves") [] (one_of (codes "ORDER") orders [] (codes "an ORDER") ∷ skip_file) (codes "a line for each leaf of its decomposition, as a graph"),
+    row-ends (codes "leaves") [] (one_of (codes "ORDER") orders [] (codes "an ORDER") ∷ skip_file) (codes "a line for each leaf of a decomposition, as a graph"),
     (
       row-ends (codes "elementary") [] skip_file (codes "a line for each elementary component, as a graph"),
       (
         row-ends (codes "matching") [] skip_file (codes "a line for each graph: a maximum matching, and D, A and C"),
         (
-          row-ends (codes "cuts") [] skip_file (codes "a line for each candidate for a tight cut"),
+          row-ends (codes "cuts") [] skip_file (codes "a line for each tight cut that decompose may take first"),
           (
             row-ends (codes "ears") [] skip_file (codes "a line for each graph: an ear decomposition"),
             (
-              row-ends (codes "graph") [] file (codes "the file of one graph, for mcg"),
+              row-ends (codes "graph") [] file (codes "the graph file of one graph, for mcg"),
               (
                 row-ends (codes "select") (what ∷ []) skip_file (codes "the lines whose graph has a property"),
                 (
-                  row-ends (codes "encode") file [] (codes "the line of a file for mcg; parallel edges count once"),
+                  row-ends (codes "encode") file [] (codes "the graph6 text of a graph file; parallel edges count once"),
                   tt,
                 ),
               ),
@@ -142,8 +142,8 @@ rows-end = (
 usage-ends : Ends list_usage_text
 unfolding list_usage_text
 usage-ends =
-    behind (codes "usage: mcg6 COMMAND WORDS.. <LIST\n") _ (behind (rows_lines list_rows) _ (behind (rows_notes list_rows) _
-    (codes "The list has a graph in graph6 on each line, and is standard input or FILE.\nWith skip, bad lines are left out and named on standard error.\nFORMATS.md has the lines that mcg6 writes.", refl)))
+    behind (codes "usage: mcg6 COMMAND [ARGUMENT]... <LIST\n") _ (behind (rows_lines list_rows) _ (behind (rows_notes list_rows) _
+    (codes "The list is standard input or FILE, with a graph in graph6 on each line.\nWith skip, bad lines are left out and named on standard error.\nFORMATS.md describes the lines that mcg6 writes.", refl)))
 
 meant-closed : (words : List (List ℕ)) (command : Option (List ℕ)) → IsClosedText (meant_text Mcg6 words command)
 meant-closed words None = inr usage-ends
