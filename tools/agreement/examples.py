@@ -57,9 +57,10 @@ def example(path, start):
 
 
 def blocks():
-    """The blocks of Rattle in docs/LIBRARY.md, and those that the crate `example_order` does not have, by their first lines."""
-    code = " ".join("\n".join(it.read_text() for it in sorted(pathlib.Path("crates/example_order/src").rglob("*.rt"))).split())
-    found = re.findall(r"^```rust\n(.*?)^```", pathlib.Path("docs/LIBRARY.md").read_text(), re.M | re.S)
+    """The blocks of code and of definitions in docs/LIBRARY.md, and those that `example_order` does not have, by their first lines."""
+    files = [it for it in sorted(pathlib.Path("crates/example_order").rglob("*")) if it.suffix in (".rt", ".antt") and "out" not in it.parts]
+    code = " ".join("\n".join(it.read_text() for it in files).split())
+    found = re.findall(r"^```(?:rust|antt)\n(.*?)^```", pathlib.Path("docs/LIBRARY.md").read_text(), re.M | re.S)
     return found, [it.split("\n")[0] for it in found if " ".join(it.split()) not in code]
 
 
@@ -69,7 +70,7 @@ def main():
     wrong = [f"crates/{path}: the example of `{name}` is not the text of the test shows_{name}"
              for path, start, name in EXAMPLES if not example(path, start) or example(path, start) != found.get(name)]
     wrong += [f"docs/LIBRARY.md: crates/example_order does not have the block that begins with {it!r}" for it in strange]
-    wrong += ["docs/LIBRARY.md: it has fewer than 5 blocks of Rattle"] if len(shown) < 5 else []
+    wrong += ["docs/LIBRARY.md: it has fewer than 8 blocks of Rattle"] if len(shown) < 8 else []
     wrong += [f"{TESTS[0]} or {TESTS[1]}: shows_{name} is the text of no example" for name in sorted(set(found) - {it[2] for it in EXAMPLES})]
     if len(found) < LEAST:
         wrong.append(f"only {len(found)} tests of examples were found; there were {LEAST} at least")
