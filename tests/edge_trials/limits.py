@@ -1,6 +1,8 @@
-"""Files and lines at their greatest size, long words, MCG_QUIET, small memory and small stacks, and input that cannot wait."""
+"""Files and lines at their greatest size, long words, MCG_QUIET, small memory and small stacks, a limit on the size of files, and input that cannot wait."""
 import bisect
 import os
+import resource
+import signal
 import subprocess
 
 from .calls import commands
@@ -71,6 +73,21 @@ def try_long_words(room, before):
                     note(ran == (READ_FAULT, b"", told), f"{program}: words of {size} bytes, write {i + 1}: {how}", f"{ran}")
         ran = run(program, command, "x/" * 40_000)
         note(ran[:2] == (READ_FAULT, b"") and b"x/x/...: " in ran[2] and len(ran[2]) < 4200, f"{program}: a name of 80,000 bytes", f"{ran}")
+
+
+def try_file_limit(room):
+    """A report that passes the limit on the size of files ends the run by SIGXFSZ, and with status 5 and its words where that is ignored; the file has what fits."""
+    large, graphs = write(f"{room}/limited.mcg", cycle(128, 1920)), write(f"{room}/limited.g6", "C~\n" * 1000)
+    for program in PROGRAMS:
+        words = ("decompose", large, "first") if name_of(program) == "mcg" else ("kinds", graphs)
+        whole = run(program, *words)[1]
+        # what runs this ignores the signal; `restore_signals` lets it end the program
+        for restores, wanted in ((True, (-signal.SIGXFSZ, None, b"")), (False, (WRITE_FAULT, None, lost_output(program)))):
+            for most in (0, 1, 512, len(whole) - 1):
+                with open(f"{room}/limited", "wb") as it:
+                    ran = run(program, *words, stdout=it, restore_signals=restores, preexec_fn=lambda most=most: resource.setrlimit(resource.RLIMIT_FSIZE, (most, most)))
+                held = read(f"{room}/limited")
+                note((ran, held) == (wanted, whole[:most]), f"{program}: a limit of {most} bytes, {'' if restores else 'ignored'}", f"{ran}, {len(held)} bytes")
 
 
 def try_quiet(room):
