@@ -5,9 +5,10 @@ ghost use Rattle.command_table.specs.Pages.{command_line, command_lines};
 ghost use Rattle.command_table.specs.Reasons.{reason_seen};
 ghost use Rattle.command_table.specs.RowsSeen.{row_seen, word_seen};
 ghost use Rattle.front_words.specs.Saying.{Says};
-ghost use Rattle.front_words.specs.Unmatched.{asked_text, asks_twice, behind_text, exchange_text, help_beyond, help_text, is_choice, is_exchanged, known_text, meant, meant_text, misuse_text, mismatch_text, some_reason_text, twice_text, unmatched_text, version_beyond, version_text};
+ghost use Rattle.front_words.specs.Unmatched.{asked_text, behind_text, exchange_text, is_choice, is_exchanged, known_text, meant, meant_text, misuse_text, mismatch_text, some_reason_text, unmatched_text};
 
 use crate::answers::is_help;
+use crate::asked::{asks_twice, help_beyond, say_help, say_twice, say_version, version_beyond};
 use crate::pieces::MessagePiece::{Shown, Text};
 use crate::pieces::{Said, say};
 use crate::programs::Program;
@@ -16,8 +17,8 @@ use crate::texts;
 use command_table::{Mismatch, Row, RowWord, why_unmatched};
 use outside::Sink;
 
-// The most bytes of a command that are shown.
-const MOST_OF_COMMAND: u32 = 60;
+/// The most bytes of a command that are shown.
+pub const MOST_OF_COMMAND: u32 = 60;
 
 // The line of a row, if that is the command.
 fn command_line(command: &str, row: &Row) -> &'static str
@@ -201,101 +202,6 @@ fn say_meant<K: Sink>(sink: &mut K, program: Program, words: &[String]) -> Said
         Some(command) => say_misuse(sink, program, command, words),
         None => say_bytes(sink, program.usage().as_bytes()),
     }
-}
-
-// The word that asks for help on more than one command, if one does.
-fn help_beyond(words: &[String]) -> Option<&str>
-    ensures { option_map (λ word. word.now) result ≡ help_beyond (map string_bytes words.now) }
-{
-    match words {
-        [] => None,
-        [_] => None,
-        [_, _] => None,
-        [word, _, _, ..] => {
-            if is_help(word.as_str()) {
-                Some(word.as_str())
-            } else {
-                None
-            }
-        }
-    }
-}
-
-// Says that there are too many words behind the one that asks for help.
-fn say_help<'a, K: Sink>(sink: &mut K, program: &'a str, word: &'a str) -> Said
-    ensures { Says K.written K.writes K.faults (help_text program.now word.now) result sink.old
-        sink.new }
-{
-    say(
-        sink,
-        &[
-            Text(program),
-            Text(texts::TOO_MANY),
-            Shown(word.as_bytes(), MOST_OF_COMMAND),
-            Text(texts::ONE_COMMAND),
-            Text("\n"),
-        ],
-    )
-}
-
-// The word that asks for the version, if there are more words.
-fn version_beyond(words: &[String]) -> Option<&str>
-    ensures { option_map (λ word. word.now) result ≡ version_beyond (map string_bytes words.now) }
-{
-    match words {
-        [] => None,
-        [_] => None,
-        [word, _, ..] => {
-            if word.as_str() == "--version" {
-                Some(word.as_str())
-            } else {
-                None
-            }
-        }
-    }
-}
-
-// Says that there are words behind the one that asks for the version.
-fn say_version<'a, K: Sink>(sink: &mut K, program: &'a str, word: &'a str) -> Said
-    ensures { Says K.written K.writes K.faults (version_text program.now word.now) result sink.old
-        sink.new }
-{
-    say(
-        sink,
-        &[
-            Text(program),
-            Text(texts::TOO_MANY),
-            Shown(word.as_bytes(), MOST_OF_COMMAND),
-            Text("\n"),
-        ],
-    )
-}
-
-// Whether two words both ask for help.
-fn asks_twice(words: &[String]) -> bool
-    ensures { result ≡ asks_twice (map string_bytes words.now) }
-{
-    match words {
-        [word, next] => is_help(word.as_str()) && is_help(next.as_str()),
-        _ => false,
-    }
-}
-
-// Says that help is no command to ask for help on.
-fn say_twice<'a, K: Sink>(sink: &mut K, program: &'a str) -> Said
-    ensures { Says K.written K.writes K.faults (twice_text program.now) result sink.old sink.new }
-{
-    let by = Text(program);
-    say(
-        sink,
-        &[
-            by,
-            Text(texts::HELP_TAKES),
-            by,
-            Text(texts::HELP_LISTS),
-            Text("\n"),
-        ],
-    )
 }
 
 // Says that help is asked for twice, or what is wrong with the words.
