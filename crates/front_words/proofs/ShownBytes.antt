@@ -63,7 +63,7 @@ pub unit-within : (text : List ℕ) → (length text ≡ 0 → ⊥) → unit_siz
 unit-within [] some = absurd (some refl)
 unit-within (a ∷ text) some =
     size-within (begins_two (a ∷ text)) (begins_three (a ∷ text)) (begins_four (a ∷ text)) (length (a ∷ text)) (omega arith)
-        (two-within (a ∷ text)) (three-within (a ∷ text)) (four-within (a ∷ text))
+    (two-within (a ∷ text)) (three-within (a ∷ text)) (four-within (a ∷ text))
 
 -- a unit of that size
 of-size : (most size : ℕ) (byte : ℕ) (text : List ℕ) → 0 < size → size ≤ length (byte ∷ text) →
