@@ -10,20 +10,20 @@ from .words import uncovered_words
 
 # The kinds of faults in a file, by number, as docs/FORMATS.md has them.
 FAULTS = {
-    1: "the header is missing, or is not that of this format and graph",
-    2: "a wrong first word, or a wrong number of words",
-    3: "a word that must be a number is not one",
-    4: "a vertex or edge number is 0 or too great",
+    1: "missing or wrong header",
+    2: "wrong first word, or wrong number of words",
+    3: "expected a number",
+    4: "a vertex or edge number is 0 or too large",
     5: "the two ends of an edge are equal",
-    6: "a stated limit is passed",
-    7: "the file ends before the format does",
-    8: "a line too many, after the end of the format",
-    9: "numbers that must rise do not",
-    10: "a shore holds the greatest vertex",
-    11: "a word that must be the name of a vertex is not one",
+    6: "a limit is exceeded",
+    7: "unexpected end of file",
+    8: "unexpected line after the end",
+    9: "numbers not in increasing order",
+    10: "a shore contains the highest-numbered vertex",
+    11: "expected the name of a vertex",
     12: "a name is given twice",
-    13: "not a name: one has 1 to 16 letters, digits, _, - or .",
-    14: "a filling bit is set",
+    13: "invalid name: use 1 to 16 letters, digits, _, - or .",
+    14: "a padding bit is set",
     15: "a size up to 62 is written in four bytes",
 }
 LIMIT = 6

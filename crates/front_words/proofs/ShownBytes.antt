@@ -1,8 +1,9 @@
 -- The bytes of a text are shown unit by unit. What is shown of a text that is not empty is what is
 -- shown of its first unit, and then what is shown of the others.
-use Rattle.std.proofs.Common.{◌≡◌, ◌∙◌, ◌≤◌, ◌<◌, ℕ, ◌-◌, zero, suc, List, [], ◌∷◌, ◌++◌, length, take, drop, refl, ap, arith, codes, Bool, true, false, cond, nat_lt}
+use Rattle.std.proofs.Common.{◌≡◌, ◌∙◌, ◌&&◌, if◌then◌else◌, ◌≤◌, ◌<◌, ℕ, ◌-◌, zero, suc, List, [], ◌∷◌, ◌++◌, length, take, drop, refl, ap, arith, codes, Bool, true, false, cond, nat_lt, not}
+use Rattle.std.proofs.lemmas.Bool.{false≢true}
 use Rattle.std.proofs.lemmas.Bool.Decides.{nat_tests}
-use Rattle.front_words.specs.Showing.{begin_shown, byte_shown, first_shown, unit_size, units_shown}
+use Rattle.front_words.specs.Showing.{begin_shown, begins_four, begins_in, begins_three, begins_two, byte_at, byte_shown, ends_plane, first_shown, is_further, is_hidden_plane, is_hidden_three, unit_size, units_shown}
 use Rattle.front_words.specs.UnitsSeen.{unit_shown}
 
 -- the further bytes of a unit are shown as they are
@@ -25,13 +26,44 @@ next-unit most byte text e = cut-at most (unit_size (byte ∷ text)) byte text (
 first-more : (size byte : ℕ) → 1 < size → first_shown size byte ≡ byte ∷ []
 first-more size byte more = grind (arith, nat_tests, more)
 
+both-true : (x y : Bool) → (x && y) ≡ true → (x ≡ true) × (y ≡ true)
+both-true true y e = (refl, e)
+both-true false y e = absurd (false≢true e)
+
+-- a byte behind the end is not a further one
+further-within : (text : List ℕ) (i : ℕ) → is_further (byte_at text i) ≡ true → i < length text
+further-within [] i e = absurd (false≢true e)
+further-within (a ∷ text) zero e = omega arith
+further-within (a ∷ text) (suc i) e = let w : i < length text = further-within text i e in omega (arith, w)
+
+two-within : (text : List ℕ) → begins_two text ≡ true → 2 ≤ length text
+two-within text e = further-within text 1 (both-true _ _ (both-true _ _ e).1).0
+
+three-within : (text : List ℕ) → begins_three text ≡ true → 3 ≤ length text
+three-within text e =
+    let whole = both-true (begins_in 224 239 160 237 160 text && is_further (byte_at text 2)) (not (is_hidden_three (byte_at text 0) (byte_at text 1) (byte_at text 2))) e in
+    further-within text 2 (both-true (begins_in 224 239 160 237 160 text) (is_further (byte_at text 2)) whole.0).1
+
+four-within : (text : List ℕ) → begins_four text ≡ true → 4 ≤ length text
+four-within text e =
+    let whole = both-true (begins_in 240 244 144 244 144 text && (is_further (byte_at text 2) && is_further (byte_at text 3))) (not (is_hidden_plane (byte_at text 0) (byte_at text 1) (byte_at text 2)) && not (ends_plane (byte_at text 1) (byte_at text 2) (byte_at text 3))) e in
+    let further = both-true (begins_in 240 244 144 244 144 text) (is_further (byte_at text 2) && is_further (byte_at text 3)) whole.0 in
+    further-within text 3 (both-true (is_further (byte_at text 2)) (is_further (byte_at text 3)) further.1).1
+
+-- the size that three tests tell is not more than a number, if each test tells that
+size-within : (two three four : Bool) (n : ℕ) → 1 ≤ n → (two ≡ true → 2 ≤ n) → (three ≡ true → 3 ≤ n) → (four ≡ true → 4 ≤ n) →
+    (if two then 2 else if three then 3 else if four then 4 else 1) ≤ n
+size-within true three four n one at_two at_three at_four = at_two refl
+size-within false true four n one at_two at_three at_four = at_three refl
+size-within false false true n one at_two at_three at_four = at_four refl
+size-within false false false n one at_two at_three at_four = one
+
 -- a unit is not longer than the text
 pub unit-within : (text : List ℕ) → (length text ≡ 0 → ⊥) → unit_size text ≤ length text
 unit-within [] some = absurd (some refl)
-unit-within (a ∷ []) some = grind (arith, nat_tests)
-unit-within (a ∷ b ∷ []) some = grind (arith, nat_tests)
-unit-within (a ∷ b ∷ c ∷ []) some = grind (arith, nat_tests)
-unit-within (a ∷ b ∷ c ∷ d ∷ text) some = grind (arith, nat_tests)
+unit-within (a ∷ text) some =
+    size-within (begins_two (a ∷ text)) (begins_three (a ∷ text)) (begins_four (a ∷ text)) (length (a ∷ text)) (omega arith)
+    (two-within (a ∷ text)) (three-within (a ∷ text)) (four-within (a ∷ text))
 
 -- a unit of that size
 of-size : (most size : ℕ) (byte : ℕ) (text : List ℕ) → 0 < size → size ≤ length (byte ∷ text) →

@@ -16,21 +16,11 @@ word_answer program word =
     if is_help word then Some (program_usage program) else
     if bytes_eq word (codes "--version") then Some (version_of program) else None
 
--- what a word after one that asks for help is answered: the page of a command; the usage, if it asks
--- for help too
-abbrev pub help_answer : Program → (next : List ℕ) → Option (List ℕ)
-help_answer program next = if is_help next then Some (program_usage program) else command_page program next
-
--- what a word is answered whatever follows it: the version
-abbrev pub first_answer : Program → (word : List ℕ) → Option (List ℕ)
-first_answer program word = if bytes_eq word (codes "--version") then Some (version_of program) else None
-
 -- what two words are answered: the page of a command, after a word that asks for help or before
--- `--help`; or the version, after which anything may follow
+-- `--help`
 abbrev pub pair_answer : Program → (word next : List ℕ) → Option (List ℕ)
 pair_answer program word next =
-    if is_help word then help_answer program next else
-    if bytes_eq word (codes "--version") then Some (version_of program) else
+    if is_help word then command_page program next else
     if bytes_eq next (codes "--help") then command_page program word else None
 
 -- what the words are answered at once; none if they ask for a run
@@ -38,7 +28,7 @@ abbrev pub answer_of : Program → List (List ℕ) → Option (List ℕ)
 answer_of program [] = None
 answer_of program (word ∷ []) = word_answer program word
 answer_of program (word ∷ next ∷ []) = pair_answer program word next
-answer_of program (word ∷ next ∷ third ∷ words) = first_answer program word
+answer_of program (word ∷ next ∷ third ∷ words) = None
 
 -- a text was the whole answer: it was written whole and all is done, or a beginning of it if
 -- the sink failed, and the write that failed is the last

@@ -15,10 +15,10 @@ use Rattle.front_words.specs.declared.texts.TheConstants as texts
 abbrev pub due_note : FileKind → (sizes : ℕ × ℕ) → List ℕ
 due_note Graph sizes = header_note Graph
 due_note Graph6 sizes = header_note Graph6
-due_note Tree sizes = texts.DUE_TREE.now ++ (decimal sizes.0 ++ codes ")")
+due_note Tree sizes = texts.DUE_TREE.now ++ (decimal sizes.0 ++ codes "`)")
 due_note Picks sizes = header_note Picks
-due_note Ears sizes = texts.DUE_EARS.now ++ (decimal sizes.0 ++ (codes " " ++ (decimal sizes.1 ++ codes ")")))
-due_note Moves sizes = texts.DUE_MOVES.now ++ (decimal sizes.0 ++ codes ")")
+due_note Ears sizes = texts.DUE_EARS.now ++ (decimal sizes.0 ++ (codes " " ++ (decimal sizes.1 ++ codes "`)")))
+due_note Moves sizes = texts.DUE_MOVES.now ++ (decimal sizes.0 ++ codes "`)")
 
 -- the same, if these numbers are known; and else the header of the format
 abbrev pub header_text : FileKind → (sizes : Option (ℕ × ℕ)) → List ℕ

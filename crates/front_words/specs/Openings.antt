@@ -1,10 +1,12 @@
 -- What a text is that does not begin as it should: a file of another format, by its first bytes,
 -- and what reads that.
 -- Stated by: front_words. Used by: mcg6_front_top.
-use Rattle.std.specs.Prelude.{ℕ, List, [], ◌∷◌, nat_eq, Bool, codes, if◌then◌else◌, Option, None, Some}
-use Rattle.std.specs.List.{starts_with}
+use Rattle.std.specs.Prelude.{ℕ, ◌-◌, ◌==◌, ◌&&◌, not, List, [], ◌∷◌, length, nat_eq, nat_le, Bool, false, codes, if◌then◌else◌, Option, None, Some}
+use Rattle.std.specs.List.{list_all, starts_with}
 use Rattle.refusals.specs.declared.file_kind.FileKind.{FileKind}
 use Rattle.refusals.specs.declared.file_kind.FileKind.TheVariants.{Graph, Graph6, Tree, Picks, Ears, Moves}
+use Rattle.front_words.specs.LinesAt.{line_at}
+use Rattle.front_words.specs.Showing.{byte_at}
 use Rattle.front_words.specs.declared.texts.TheConstants as texts
 
 -- the text begins with these bytes
@@ -20,6 +22,8 @@ note_or (byte ∷ note) other = byte ∷ note
 abbrev pub coding_note : List ℕ → List ℕ
 coding_note text =
     if opens text (239 ∷ 187 ∷ 191 ∷ []) then texts.BEGINS_MARKED.now else
+    if opens text (255 ∷ 254 ∷ []) then texts.BEGINS_UTF16.now else
+    if opens text (254 ∷ 255 ∷ []) then texts.BEGINS_UTF16.now else
     if opens text (31 ∷ 139 ∷ []) then texts.BEGINS_GZIP.now else []
 
 -- a note on a text that begins as a format of graphs that is not read here; nothing on others
@@ -37,9 +41,22 @@ graph_file_note text =
     if opens text (codes "p mcg") then texts.BEGINS_GRAPH.now else
     if opens text (codes "c ") then texts.BEGINS_GRAPH.now else []
 
--- a note on a text that begins as graph6, where a graph file is wanted; nothing on others
+-- graph6 has such bytes
+abbrev pub is_digit : ℕ → Bool
+is_digit byte = nat_le 63 byte && nat_le byte 126
+
+-- the line, if there is one, has only bytes of graph6, and at least as many as the first of them
+-- asks for: with `n` vertices they are at least `n - 2`
+abbrev pub is_like_graph6 : (line : Option (List ℕ)) → Bool
+is_like_graph6 None = false
+is_like_graph6 (Some line) = not (length line == 0) && (nat_le (byte_at line 0 - 65) (length line) && list_all is_digit line)
+
+-- a note on a text that begins as graph6, by its name or by its first line, where a graph file is
+-- wanted; nothing on others
 abbrev pub graph6_note : List ℕ → List ℕ
-graph6_note text = if opens text (codes ">>graph6<<") then texts.BEGINS_GRAPH6.now else []
+graph6_note text =
+    if opens text (codes ">>graph6<<") then texts.BEGINS_GRAPH6.now else
+    if is_like_graph6 (line_at text 1) then texts.BEGINS_GRAPH6.now else []
 
 -- a note on the header of a graph file where a file for one is wanted, with what makes that of it
 abbrev pub beside_note : FileKind → List ℕ

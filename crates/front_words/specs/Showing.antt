@@ -37,13 +37,55 @@ begins_in first last least top limit text =
     (nat_le first (byte_at text 0) && nat_le (byte_at text 0) last) && (is_further (byte_at text 1)
     && (not (byte_at text 0 == first && nat_lt (byte_at text 1) least) && not (byte_at text 0 == top && nat_le limit (byte_at text 1))))
 
--- a character of three bytes begins the text
-abbrev pub begins_three : List ℕ → Bool
-begins_three text = begins_in 224 239 160 237 160 text && is_further (byte_at text 2)
+-- the byte is from the first of these to the last
+abbrev pub is_within : (byte first last : ℕ) → Bool
+is_within byte first last = nat_le first byte && nat_le byte last
 
--- a character of four bytes begins the text
+-- these bytes, behind 226, are of a character without a shape or that turns the direction of the
+-- line: U+200B to U+200F, U+2028 to U+202E, U+2066 to U+2069
+unfoldable pub is_layout : (second third : ℕ) → Bool
+is_layout second third =
+    if second == 128 then is_within third 139 143 || is_within third 168 174 else
+    second == 129 && is_within third 166 169
+
+-- these bytes, behind 239, are of a character for private use, up to U+F8FF, of a noncharacter, or
+-- of a mark: U+FDD0 to U+FDEF, U+FEFF, U+FFF9 to U+FFFB, U+FFFE and U+FFFF
+unfoldable pub is_special : (second third : ℕ) → Bool
+is_special second third =
+    if second == 183 then is_within third 144 175 else
+    if second == 187 then third == 191 else
+    if second == 191 then is_within third 185 187 || nat_le 190 third else
+    nat_le second 163
+
+-- these three bytes are a character that does not print, if they are one
+unfoldable pub is_hidden_three : (first second third : ℕ) → Bool
+is_hidden_three first second third =
+    if first == 226 then is_layout second third else
+    if first == 239 then is_special second third else
+    first == 238
+
+-- the character of four bytes that begins so, if it is one, is a tag, U+E0000 to U+E007F, or for
+-- private use, from U+F0000
+unfoldable pub is_hidden_plane : (first second third : ℕ) → Bool
+is_hidden_plane first second third =
+    if first == 243 then nat_le 176 second || (second == 160 && nat_le third 129) else
+    first == 244
+
+-- a character of four bytes that ends so is one of the last two of its plane, which are
+-- noncharacters
+unfoldable pub ends_plane : (second third fourth : ℕ) → Bool
+ends_plane second third fourth = second % 16 == 15 && (third == 191 && nat_le 190 fourth)
+
+-- a character of three bytes that prints begins the text
+abbrev pub begins_three : List ℕ → Bool
+begins_three text =
+    (begins_in 224 239 160 237 160 text && is_further (byte_at text 2)) && not (is_hidden_three (byte_at text 0) (byte_at text 1) (byte_at text 2))
+
+-- a character of four bytes that prints begins the text
 abbrev pub begins_four : List ℕ → Bool
-begins_four text = begins_in 240 244 144 244 144 text && (is_further (byte_at text 2) && is_further (byte_at text 3))
+begins_four text =
+    (begins_in 240 244 144 244 144 text && (is_further (byte_at text 2) && is_further (byte_at text 3)))
+    && (not (is_hidden_plane (byte_at text 0) (byte_at text 1) (byte_at text 2)) && not (ends_plane (byte_at text 1) (byte_at text 2) (byte_at text 3)))
 
 -- how many bytes of the text are shown together: those of a character beyond ASCII that prints, or
 -- one

@@ -27,7 +27,7 @@ all_texts =
     texts.DUE_TREE.now ∷ texts.DUE_EARS.now ∷ texts.DUE_MOVES.now ∷
     texts.LIMIT_GRAPH.now ∷ texts.LIMIT_TREE.now ∷ texts.LIMIT_PICKS.now ∷ texts.LIMIT_MOVES.now ∷
     texts.READER_GRAPH6.now ∷ texts.SHORE_PLAIN.now ∷ texts.SHORE_OTHER.now ∷
-    texts.BEGINS_MARKED.now ∷ texts.BEGINS_GZIP.now ∷ texts.BEGINS_SPARSE6.now ∷ texts.BEGINS_DIGRAPH6.now ∷
+    texts.BEGINS_MARKED.now ∷ texts.BEGINS_UTF16.now ∷ texts.BEGINS_GZIP.now ∷ texts.BEGINS_SPARSE6.now ∷ texts.BEGINS_DIGRAPH6.now ∷
     texts.BEGINS_PLANAR.now ∷ texts.BEGINS_GRAPH.now ∷ texts.BEGINS_GRAPH6.now ∷ texts.GRAPH_FOR_TREE.now ∷
     texts.GRAPH_FOR_EARS.now ∷ texts.GRAPH_FIRST.now ∷
     texts.READ_ABSENT.now ∷ texts.READ_DANGLING.now ∷ texts.READ_FOLDER.now ∷ texts.READ_NOT_IN_FOLDER.now ∷
@@ -37,7 +37,7 @@ all_texts =
     texts.FILE_TOO_LONG.now ∷ texts.IN_LINE.now ∷ texts.LINE.now ∷ texts.LINE_IS.now ∷ texts.LINE_EMPTY.now ∷
     texts.KIND.now ∷ texts.THE_LINE.now ∷ texts.LIST_ENDS.now ∷ texts.LINE_TOO_LONG.now ∷
     texts.ARGUMENT.now ∷ texts.NOT_UTF8.now ∷ texts.NO_COMMAND.now ∷ texts.HELP_LISTS.now ∷ texts.TOO_MANY.now ∷
-    texts.NEEDS.now ∷ texts.ONE_COMMAND.now ∷
+    texts.NEEDS.now ∷ texts.EXCHANGED.now ∷ texts.HELP_TAKES.now ∷ texts.ONE_COMMAND.now ∷
     texts.LOST.now ∷ texts.NOTHING_WRITTEN.now ∷ texts.FIRST_LINES.now ∷
     texts.NOT_COVERED.now ∷ texts.COVER_SMALL.now ∷ texts.COVER_PARTED.now ∷ texts.COVER_PARTED_TO.now ∷
     texts.COVER_PARTED_END.now ∷ texts.COVER_UNMATCHED.now ∷ texts.COVER_EDGE.now ∷ texts.COVER_EDGE_END.now ∷

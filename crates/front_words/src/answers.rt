@@ -1,7 +1,7 @@
 //! The words that a program answers at once.
 ghost use Rattle.std.specs.Prelude.{◌≡◌, map, string_bytes};
 ghost use Rattle.std.specs.Option.{option_map};
-ghost use Rattle.front_words.specs.Answers.{Answers, answer_of, first_answer, help_answer, is_help, pair_answer, word_answer};
+ghost use Rattle.front_words.specs.Answers.{Answers, answer_of, is_help, pair_answer, word_answer};
 
 use crate::programs::Program;
 use crate::showing::say_bytes;
@@ -27,37 +27,12 @@ fn word_answer(program: Program, word: &str) -> Option<&'static str>
     }
 }
 
-// What a word after one that asks for help is answered: the page of a command; the usage, if it asks
-// for help too.
-fn help_answer(program: Program, next: &str) -> Option<&'static str>
-    ensures { option_map (λ text. text.now) result ≡ help_answer program next.now }
-{
-    if is_help(next) {
-        Some(program.usage())
-    } else {
-        program.page(next)
-    }
-}
-
-// What the word is answered at once whatever follows it: the version.
-fn first_answer(program: Program, word: &str) -> Option<&'static str>
-    ensures { option_map (λ text. text.now) result ≡ first_answer program word.now }
-{
-    if word == "--version" {
-        Some(program.version())
-    } else {
-        None
-    }
-}
-
-// What two words are answered at once, if they are: the page of a command, or the version.
+// What two words are answered at once, if they are: the page of a command.
 fn pair_answer(program: Program, word: &str, next: &str) -> Option<&'static str>
     ensures { option_map (λ text. text.now) result ≡ pair_answer program word.now next.now }
 {
     if is_help(word) {
-        help_answer(program, next)
-    } else if word == "--version" {
-        Some(program.version())
+        program.page(next)
     } else if next == "--help" {
         program.page(word)
     } else {
@@ -72,7 +47,6 @@ pub fn answer_of(program: Program, words: &[String]) -> Option<&'static str>
     match words {
         [word] => word_answer(program, word.as_str()),
         [word, next] => pair_answer(program, word.as_str(), next.as_str()),
-        [word, _, _, ..] => first_answer(program, word.as_str()),
         _ => None,
     }
 }

@@ -14,6 +14,7 @@
 #![tactic(auto)]
 
 mod answers;
+mod asked;
 mod empty_lines;
 mod endings;
 mod faults;

@@ -22,7 +22,7 @@ fn say_due<K: Sink>(sink: &mut K, file_kind: FileKind, sizes: (u32, u32)) -> Sai
 {
     let (order, size) = sizes;
     let order = Number(order as u64);
-    let end = Text(")");
+    let end = Text("`)");
     match file_kind {
         FileKind::Tree => say(sink, &[Text(texts::DUE_TREE), order, end]),
         FileKind::Ears => say(

@@ -1,8 +1,11 @@
 //! What a text is that does not begin as it should.
 ghost use Rattle.std.specs.Prelude.{◌≡◌};
+ghost use Rattle.std.specs.List.{list_all};
 ghost use Rattle.std.specs.Option.{option_map};
-ghost use Rattle.front_words.specs.Openings.{beginning_note, beside_note, coding_note, format_note, graph6_note, graph_file_note, misplaced_note, note_or, opening_note, file_kind_note};
+ghost use Rattle.front_words.specs.Openings.{beginning_note, beside_note, coding_note, format_note, graph6_note, graph_file_note, is_digit, is_like_graph6, misplaced_note, note_or, opening_note, file_kind_note};
 
+use crate::lines::line_at;
+use crate::showing::byte_at;
 use crate::texts;
 use refusals::FileKind;
 
@@ -19,6 +22,10 @@ fn coding_note(text: &[u8]) -> &'static str
 {
     if text.starts_with(b"\xef\xbb\xbf") {
         texts::BEGINS_MARKED
+    } else if text.starts_with(b"\xff\xfe") {
+        texts::BEGINS_UTF16
+    } else if text.starts_with(b"\xfe\xff") {
+        texts::BEGINS_UTF16
     } else if text.starts_with(b"\x1f\x8b") {
         texts::BEGINS_GZIP
     } else {
@@ -58,11 +65,41 @@ fn graph_file_note(text: &[u8]) -> &'static str
     }
 }
 
+// Whether graph6 has such bytes.
+fn is_digit(byte: u8) -> bool
+    ensures { result ≡ is_digit byte }
+{
+    byte >= 63 && byte <= 126
+}
+
+// Whether graph6 has all these bytes.
+fn are_digits(line: &[u8]) -> bool
+    ensures { result ≡ list_all is_digit line.now }
+{
+    line.iter().all(|byte| is_digit(*byte))
+}
+
+// Whether the line, if there is one, has only bytes of graph6, and at least as many as the first of
+// them asks for: with `n` vertices they are at least `n - 2`.
+fn is_like_graph6(line: Option<&[u8]>) -> bool
+    ensures { result ≡ is_like_graph6 (option_map (λ line. line.now) line.entry) }
+{
+    match line {
+        Some(line) => {
+            let least = byte_at(line, 0).saturating_sub(65) as usize;
+            !line.is_empty() && (line.len() >= least && are_digits(line))
+        }
+        None => false,
+    }
+}
+
 // A note on a text that begins as graph6, where a graph file is wanted; nothing on others.
 fn graph6_note(text: &[u8]) -> &'static str
     ensures { result.now ≡ graph6_note text.now }
 {
     if text.starts_with(b">>graph6<<") {
+        texts::BEGINS_GRAPH6
+    } else if is_like_graph6(line_at(text, 1)) {
         texts::BEGINS_GRAPH6
     } else {
         ""

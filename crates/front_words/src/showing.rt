@@ -1,7 +1,7 @@
 //! Showing bytes of the outside in a line.
 ghost use Rattle.std.specs.Prelude.{◌≡◌, ◌≤◌, ◌<◌, ◌&&◌, length};
 ghost use Rattle.front_words.specs.Saying.{Says};
-ghost use Rattle.front_words.specs.Showing.{begin_shown, begins_four, begins_in, begins_three, begins_two, byte_at, byte_shown, is_control, is_further, shown, unit_size};
+ghost use Rattle.front_words.specs.Showing.{begin_shown, begins_four, begins_in, begins_three, begins_two, byte_at, byte_shown, ends_plane, is_control, is_further, is_hidden_plane, is_hidden_three, is_layout, is_special, is_within, shown, unit_size};
 ghost use Rattle.front_words.specs.UnitsSeen.{unit_shown};
 
 use crate::pieces::Said;
@@ -14,8 +14,8 @@ fn is_control(byte: u8) -> bool
     byte < 32 || byte >= 127
 }
 
-// The byte at that place, or 0 where the text ends before it.
-fn byte_at(text: &[u8], place: usize) -> u8
+/// The byte at that place, or 0 where the text ends before it. Takes no memory.
+pub fn byte_at(text: &[u8], place: usize) -> u8
     ensures { result ≡ byte_at text.now place }
 {
     match text.get(place) {
@@ -53,19 +53,93 @@ fn begins_in(text: &[u8], first: u8, last: u8, least: u8, top: u8, limit: u8) ->
     (byte >= first && byte <= last) && (is_further(second) && (!is_long && !is_beyond))
 }
 
-// Whether a character of three bytes begins the text.
+// Whether the byte is from the first of these to the last.
+fn is_within(byte: u8, first: u8, last: u8) -> bool
+    ensures { result ≡ is_within byte first last }
+{
+    byte >= first && byte <= last
+}
+
+// Whether these bytes, behind 226, are U+200B to U+200F, U+2028 to U+202E or U+2066 to U+2069.
+#[tactic(auto, unfolding(crate::specs::Showing::is_layout))]
+fn is_layout(second: u8, third: u8) -> bool
+    ensures { result ≡ is_layout second third }
+{
+    if second == 128 {
+        is_within(third, 139, 143) || is_within(third, 168, 174)
+    } else {
+        second == 129 && is_within(third, 166, 169)
+    }
+}
+
+// Whether these bytes, behind 239, are up to U+F8FF, or U+FDD0 to U+FDEF, U+FEFF, U+FFF9 to U+FFFB,
+// U+FFFE or U+FFFF.
+#[tactic(auto, unfolding(crate::specs::Showing::is_special))]
+fn is_special(second: u8, third: u8) -> bool
+    ensures { result ≡ is_special second third }
+{
+    if second == 183 {
+        is_within(third, 144, 175)
+    } else if second == 187 {
+        third == 191
+    } else if second == 191 {
+        is_within(third, 185, 187) || third >= 190
+    } else {
+        second <= 163
+    }
+}
+
+// Whether these three bytes are a character that does not print, if they are one.
+#[tactic(auto, unfolding(crate::specs::Showing::is_hidden_three))]
+fn is_hidden_three(first: u8, second: u8, third: u8) -> bool
+    ensures { result ≡ is_hidden_three first second third }
+{
+    if first == 226 {
+        is_layout(second, third)
+    } else if first == 239 {
+        is_special(second, third)
+    } else {
+        first == 238
+    }
+}
+
+// Whether the character of four bytes that begins so is a tag or for private use, if it is one.
+#[tactic(auto, unfolding(crate::specs::Showing::is_hidden_plane))]
+fn is_hidden_plane(first: u8, second: u8, third: u8) -> bool
+    ensures { result ≡ is_hidden_plane first second third }
+{
+    if first == 243 {
+        second >= 176 || (second == 160 && third <= 129)
+    } else {
+        first == 244
+    }
+}
+
+// Whether a character of four bytes that ends so is one of the last two of its plane.
+#[tactic(auto, unfolding(crate::specs::Showing::ends_plane))]
+fn ends_plane(second: u8, third: u8, fourth: u8) -> bool
+    ensures { result ≡ ends_plane second third fourth }
+{
+    second % 16 == 15 && (third == 191 && fourth >= 190)
+}
+
+// Whether a character of three bytes that prints begins the text.
 fn begins_three(text: &[u8]) -> bool
     ensures { result ≡ begins_three text.now }
 {
-    begins_in(text, 224, 239, 160, 237, 160) && is_further(byte_at(text, 2))
+    let is_whole = begins_in(text, 224, 239, 160, 237, 160) && is_further(byte_at(text, 2));
+    is_whole && !is_hidden_three(byte_at(text, 0), byte_at(text, 1), byte_at(text, 2))
 }
 
-// Whether a character of four bytes begins the text.
+// Whether a character of four bytes that prints begins the text.
 fn begins_four(text: &[u8]) -> bool
     ensures { result ≡ begins_four text.now }
 {
-    begins_in(text, 240, 244, 144, 244, 144)
-        && (is_further(byte_at(text, 2)) && is_further(byte_at(text, 3)))
+    let is_whole = begins_in(text, 240, 244, 144, 244, 144)
+        && (is_further(byte_at(text, 2)) && is_further(byte_at(text, 3)));
+    let is_hidden = is_hidden_plane(byte_at(text, 0), byte_at(text, 1), byte_at(text, 2));
+    let is_last = ends_plane(byte_at(text, 1), byte_at(text, 2), byte_at(text, 3));
+    is_whole && (!is_hidden && !is_last)
 }
 
 // How many bytes of the text are shown together.

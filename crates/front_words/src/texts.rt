@@ -5,34 +5,34 @@
 //! message.
 
 // Faults in a text of lines, by their kinds.
-pub const FAULT_HEADER: &str = "the header is missing, or is not that of this format and graph";
+pub const FAULT_HEADER: &str = "missing or wrong header";
 
-pub const FAULT_WORD: &str = "a wrong first word, or a wrong number of words";
+pub const FAULT_WORD: &str = "wrong first word, or wrong number of words";
 
-pub const FAULT_NUMBER: &str = "a word that must be a number is not one";
+pub const FAULT_NUMBER: &str = "expected a number";
 
-pub const FAULT_RANGE: &str = "a vertex or edge number is 0 or too great";
+pub const FAULT_RANGE: &str = "a vertex or edge number is 0 or too large";
 
 pub const FAULT_LOOP: &str = "the two ends of an edge are equal";
 
-pub const FAULT_LIMIT: &str = "a stated limit is passed";
+pub const FAULT_LIMIT: &str = "a limit is exceeded";
 
-pub const FAULT_MISSING: &str = "the file ends before the format does";
+pub const FAULT_MISSING: &str = "unexpected end of file";
 
-pub const FAULT_EXTRA: &str = "a line too many, after the end of the format";
+pub const FAULT_EXTRA: &str = "unexpected line after the end";
 
-pub const FAULT_NOT_RISING: &str = "numbers that must rise do not";
+pub const FAULT_NOT_RISING: &str = "numbers not in increasing order";
 
-pub const FAULT_HAS_GREATEST: &str = "a shore holds the greatest vertex";
+pub const FAULT_HAS_GREATEST: &str = "a shore contains the highest-numbered vertex";
 
-pub const FAULT_UNNAMED: &str = "a word that must be the name of a vertex is not one";
+pub const FAULT_UNNAMED: &str = "expected the name of a vertex";
 
 pub const FAULT_SAME_NAME: &str = "a name is given twice";
 
-pub const FAULT_BAD_NAME: &str = "not a name: one has 1 to 16 letters, digits, _, - or .";
+pub const FAULT_BAD_NAME: &str = "invalid name: use 1 to 16 letters, digits, _, - or .";
 
 // Faults in a graph6 text, by their kinds.
-pub const GRAPH6_RANGE: &str = "a byte is outside 63 to 126, as graph6 has them";
+pub const GRAPH6_RANGE: &str = "not graph6: a byte is outside the range 63-126";
 
 pub const GRAPH6_LIMIT: &str = "more than 128 vertices or 2,048 edges";
 
@@ -40,7 +40,7 @@ pub const GRAPH6_MISSING: &str = "the text ends before the graph does";
 
 pub const GRAPH6_EXTRA: &str = "more than one graph, or bytes after its end";
 
-pub const GRAPH6_PADDING: &str = "a filling bit is set";
+pub const GRAPH6_PADDING: &str = "a padding bit is set";
 
 pub const GRAPH6_LONG_FORM: &str = "a size up to 62 is written in four bytes";
 
@@ -48,22 +48,23 @@ pub const GRAPH6_LONG_FORM: &str = "a size up to 62 is written in four bytes";
 pub const FAULT_OTHER: &str = "a fault of another kind";
 
 // The headers of the formats.
-pub const HEADER_GRAPH: &str = " (here p mcg N M or p mcg2 N M; analyse6 reads graph6)";
+pub const HEADER_GRAPH: &str =
+    " (expected `p mcg N M` or `p mcg2 N M`; mcg6 graph makes a graph file from graph6)";
 
-pub const HEADER_TREE: &str = " (here t mcg N, with the N of the graph)";
+pub const HEADER_TREE: &str = " (expected `t mcg N`, with the N of the graph)";
 
-pub const HEADER_PICKS: &str = " (here s mcg K)";
+pub const HEADER_PICKS: &str = " (expected `s mcg K`)";
 
-pub const HEADER_EARS: &str = " (here r mcg N M, with the N and M of the graph)";
+pub const HEADER_EARS: &str = " (expected `r mcg N M`, with the N and M of the graph)";
 
-pub const HEADER_MOVES: &str = " (here m mcg N, with the N of the graph)";
+pub const HEADER_MOVES: &str = " (expected `m mcg N`, with the N of the graph)";
 
 // The headers that are due, before the numbers of the graph.
-pub const DUE_TREE: &str = " (here t mcg ";
+pub const DUE_TREE: &str = " (expected `t mcg ";
 
-pub const DUE_EARS: &str = " (here r mcg ";
+pub const DUE_EARS: &str = " (expected `r mcg ";
 
-pub const DUE_MOVES: &str = " (here m mcg ";
+pub const DUE_MOVES: &str = " (expected `m mcg ";
 
 // The limits of the formats.
 pub const LIMIT_GRAPH: &str = " (p mcg: 64 vertices, 512 edges; p mcg2: 128 and 2,048)";
@@ -84,44 +85,49 @@ pub const SHORE_OTHER: &str = " (write the other shore: cut";
 // What a text is that does not begin as it should.
 pub const BEGINS_MARKED: &str = " (it begins with a byte order mark; save it without one)";
 
-pub const BEGINS_GZIP: &str = " (it begins as a file of gzip; zcat reads it)";
+pub const BEGINS_UTF16: &str = " (it looks like UTF-16; save it as UTF-8)";
 
-pub const BEGINS_SPARSE6: &str = " (it begins as sparse6; copyg -g makes graph6 of it)";
+pub const BEGINS_GZIP: &str = " (it looks like a gzip file; zcat reads it)";
 
-pub const BEGINS_DIGRAPH6: &str = " (it begins as digraph6; only undirected graphs are read)";
+pub const BEGINS_SPARSE6: &str = " (it looks like sparse6; copyg -g converts it to graph6)";
 
-pub const BEGINS_PLANAR: &str = " (it begins as planar_code; plantri -g writes graph6 instead)";
+pub const BEGINS_DIGRAPH6: &str = " (it looks like digraph6; only undirected graphs are read)";
 
-pub const BEGINS_GRAPH: &str = " (it begins as a graph file; mcg6 encode makes graph6 of it)";
+pub const BEGINS_PLANAR: &str = " (it looks like planar_code; plantri -g writes graph6 instead)";
 
-pub const BEGINS_GRAPH6: &str = " (it begins as graph6; mcg analyse6 and mcg6 read it)";
+pub const BEGINS_GRAPH: &str = " (it looks like a graph file; mcg6 encode converts it to graph6)";
 
-pub const GRAPH_FOR_TREE: &str = " (this is a graph file; mcg decompose makes a derivation of one)";
+pub const BEGINS_GRAPH6: &str =
+    " (it looks like graph6; mcg6 graph makes a graph file of it, and mcg analyse6 reads it)";
 
-pub const GRAPH_FOR_EARS: &str = " (this is a graph file; mcg ears makes an ear list of one)";
+pub const GRAPH_FOR_TREE: &str =
+    " (this is a graph file; mcg decompose makes a decomposition of one)";
+
+pub const GRAPH_FOR_EARS: &str =
+    " (this is a graph file; mcg ears makes an ear decomposition of one)";
 
 pub const GRAPH_FIRST: &str = " (this is a graph file, which comes first)";
 
 // Why a file could not be read.
 pub const READ_ABSENT: &str = "there is no such file";
 
-pub const READ_DANGLING: &str = "it is a link to what is not there";
+pub const READ_DANGLING: &str = "it is a link to a file that does not exist";
 
 pub const READ_FOLDER: &str = "it is a folder";
 
-pub const READ_NOT_IN_FOLDER: &str = "a part of its name is not a folder";
+pub const READ_NOT_IN_FOLDER: &str = "part of its path is not a folder";
 
 pub const READ_FORBIDDEN: &str = "no permission to read it";
 
 pub const READ_LONG_NAME: &str = "its name is too long";
 
-pub const READ_LINK_LOOP: &str = "links lead around in a circle";
+pub const READ_LINK_LOOP: &str = "its symbolic links form a loop";
 
-pub const READ_SOCKET: &str = "it is a socket, or a device that is not there";
+pub const READ_SOCKET: &str = "it is a socket, or a device that does not exist";
 
 pub const READ_MANY_OPEN: &str = "too many files are open";
 
-pub const READ_NO_MEMORY: &str = "the system has no memory for it";
+pub const READ_NO_MEMORY: &str = "the system is out of memory";
 
 pub const READ_OTHER: &str = "a read of it failed";
 
@@ -168,6 +174,10 @@ pub const TOO_MANY: &str = ": too many arguments for ";
 
 pub const NEEDS: &str = " needs ";
 
+pub const EXCHANGED: &str = ": the two arguments seem to be exchanged";
+
+pub const HELP_TAKES: &str = ": help takes the name of a command; ";
+
 pub const ONE_COMMAND: &str = "; it takes at most one command";
 
 // Output that could not be written, and memory that ran out.
@@ -175,7 +185,7 @@ pub const LOST: &str = ": the output could not be written whole";
 
 pub const NOTHING_WRITTEN: &str = ": memory ran out; nothing was written";
 
-pub const FIRST_LINES: &str = ": memory ran out; what was written is of the first lines alone";
+pub const FIRST_LINES: &str = ": memory ran out; only the results for the first lines were written";
 
 // A graph that is not matching covered, and why.
 pub const NOT_COVERED: &str = ": the graph is not matching covered: ";
@@ -189,8 +199,8 @@ pub const COVER_PARTED_TO: &str = " to vertex ";
 pub const COVER_PARTED_END: &str = " (take one component)";
 
 pub const COVER_UNMATCHED: &str =
-    "it has no perfect matching, as without the vertices shown it has more odd components than \
-    these are";
+    "it has no perfect matching: deleting the vertices shown leaves more odd components than \
+    vertices deleted";
 
 pub const COVER_EDGE: &str = "edge ";
 

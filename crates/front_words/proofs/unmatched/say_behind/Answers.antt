@@ -1,0 +1,15 @@
+use Rattle.std.proofs.Common.{refl}
+use Rattle.outside.specs.declared.sink.SinkFailed.{SinkFailed}
+use Rattle.front_words.proofs.Sayings.{says_break, says_step}
+use Rattle.front_words.proofs.unmatched.say_behind.Goals as goal
+
+pub returns-in-Ok : goal.returns-in-Ok
+returns-in-Ok g c =
+    let said = rw c.name.ensures at c.in-Ok.ensures in
+    let lines = rw c.rows-rows.ensures at c.say_lines.ensures in
+    says_step {F = SinkFailed} g.K.Sink.written g.K.Sink.writes g.K.Sink.faults _ _ _ _ _ _ _ refl said lines
+
+pub returns-in-Err : goal.returns-in-Err
+returns-in-Err g c =
+    let said = rw c.name.ensures at c.in-Err.ensures in
+    says_break {F = SinkFailed} g.K.Sink.written g.K.Sink.writes g.K.Sink.faults _ _ _ _ _ _ refl said
