@@ -72,7 +72,7 @@ def decode(text: str) -> Tuple[int, List[Tuple[int, int]]]:
         raise BadGraph("not a graph in graph6: there are several lines", 2, 8)
     data = [ord(letter) - 63 for letter in body]
     if any(not 0 <= it <= 63 for it in data):
-        raise BadGraph("not a graph in graph6: a byte is outside 63 to 126", 1, 4)
+        raise BadGraph("not graph6: a byte is outside the range 63-126", 1, 4)
     order, rest = _order(data)
     if order > MOST_VERTICES:
         raise _fault(LIMIT)

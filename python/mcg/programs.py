@@ -95,8 +95,8 @@ def bad_lines(words: str) -> Dict[int, Tuple[int, str]]:
     """Returns for each bad line of a list, by its number, the kind of its error and what mcg6 says
     of it: the message begins `mcg6: line L kind K: `. Nothing else is read out of its words.
 
-    >>> bad_lines("mcg6: line 2 kind 4: a byte is outside 63 to 126")
-    {2: (4, 'a byte is outside 63 to 126')}
+    >>> bad_lines("mcg6: line 2 kind 4: a byte is outside the range 63-126")
+    {2: (4, 'a byte is outside the range 63-126')}
     """
     said: Dict[int, Tuple[int, str]] = {}
     for message in words.splitlines():

@@ -213,6 +213,6 @@ def _line(graph: Any) -> Tuple[bytes, Optional[Graph]]:
         raise TooLarge("a line of a list has at most 65,536 bytes", kind=LIMIT)
     if not text.isascii() or text.startswith(graph6.HEADER):
         raise BadGraph(
-            f"not a graph in graph6: a byte is outside 63 to 126 in {brief(repr(text))}", kind=RANGE
+            f"not graph6: a byte is outside the range 63-126 in {brief(repr(text))}", kind=RANGE
         )
     return text.encode("ascii"), None

@@ -79,7 +79,7 @@ def uncovered_words(reason: Optional[str], witness: Any) -> str:
         ends = "vertex {} to vertex {}".format(*map(shown, witness))
         why = f"it is disconnected, as no path leads from {ends} (take one component)"
     elif reason == "berge":
-        why = f"it has no perfect matching, as without the vertices {shown(witness)} it has more odd components than these are"
+        why = f"it has no perfect matching: deleting the vertices {shown(witness)} leaves more odd components than vertices deleted"
         if not witness:
             why = "it has no perfect matching, as the number of its vertices is odd"
     elif reason == "edge":
