@@ -340,7 +340,7 @@ class Program(unittest.TestCase):
 
     def test_the_program(self):
         graph, tree = f"{EXAMPLES}/two_k4.mcg", f"{EXAMPLES}/two_k4_first.tree"
-        self.assertEqual(self.ran(graph, tree), (0, f"{tree}: a report of decompose, and it is right\n", ""))
+        self.assertEqual(self.ran(graph, tree), (0, f"{tree}: correct decompose report\n", ""))
         self.assertEqual(self.ran(graph, f"{EXAMPLES}/two_k4.moves", tree, f"{EXAMPLES}/two_k4_last.tree")[0], 0)
         with tempfile.TemporaryDirectory() as folder:
             with open(f"{folder}/report", "w") as file:
@@ -349,7 +349,7 @@ class Program(unittest.TestCase):
             self.assertEqual((status, errors), (1, ""))
             self.assertIn("wrong: the count of the leaves", out)
             self.assertEqual(self.ran(graph, f"{folder}/report")[0], 2)
-        self.assertEqual(self.ran("--order", "first", graph, tree), (0, f"{tree}: a report of decompose, and it is right\n", ""))
+        self.assertEqual(self.ran("--order", "first", graph, tree), (0, f"{tree}: correct decompose report\n", ""))
         status, out, errors = self.ran("--order", "last", graph, tree)
         self.assertEqual((status, out, errors), (1, f"{tree}: wrong: cut 1 (in preorder) is not the one that the order last takes\n", ""))
         self.assertEqual(self.ran(graph, f"{EXAMPLES}/two_k4_last.tree", f"{EXAMPLES}/two_k4.picks")[0], 0)

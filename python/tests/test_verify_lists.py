@@ -360,11 +360,11 @@ class Program(unittest.TestCase):
                 for name, data in (("list", Contradicts.DATA), ("good", lines(Contradicts.KINDS)), ("bad", lines(Contradicts.KINDS[1:]))):
                     with open(name, "wb") as file:
                         file.write(data)
-                self.assertEqual(self.ran("--list", "list", "good", "kinds"), (0, "good: a report of mcg6 kinds, 7 lines, and it is right\n", ""))
+                self.assertEqual(self.ran("--list", "list", "good", "kinds"), (0, "good: correct mcg6 kinds report, 7 lines\n", ""))
                 status, out, errors = self.ran("--list", "list", "bad", "kinds")
                 self.assertEqual((status, errors), (1, ""))
                 self.assertIn("bad: line 1 is wrong (line 1 of list): 'C~ 4 6 brick", out)
-                self.assertIn("and it is wrong in 1 place", out)
+                self.assertIn("bad: wrong in 1 place: mcg6 kinds report, 6 lines", out)
                 for names in (["--list"], ["--list", "list"], ["--list", "list", "good"], ["--list", "list", "good", "kind"], ["--list", "/nowhere", "good", "kinds"]):
                     self.assertEqual(self.ran(*names)[0], 2, names)
             finally:

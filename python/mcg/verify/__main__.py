@@ -51,8 +51,8 @@ def main(names: List[str]) -> int:
     except (Error, OSError, ValueError) as why:
         print(f"mcg.verify: {why}", file=sys.stderr)
         return 2
-    said = {"tree": "the refusal of a tree", "verdict": "the verdict"}.get(command, f"a report of {command}")
-    print(f"{names[1]}: {said}, and it is right")
+    said = {"tree": "refusal of a tree", "verdict": "verdict"}.get(command, f"{command} report")
+    print(f"{names[1]}: correct {said}")
     return 0
 
 
@@ -66,8 +66,8 @@ def judge_list(list_name: str, report_name: str, words: List[str]) -> int:
             faults += 1
             about = "" if fault.number is None else f" (line {fault.number} of {list_name})"
             print(f"{report_name}: line {fault.line} is wrong{about}: {fault.words}")
-    said = f"{report_name}: a report of mcg6 {' '.join(words)}, {counted(judged.lines, 'line')}"
-    print(f"{said}, and it is " + (f"wrong in {counted(faults, 'place')}" if faults else "right"))
+    said = f"mcg6 {' '.join(words)} report, {counted(judged.lines, 'line')}"
+    print(f"{report_name}: wrong in {counted(faults, 'place')}: {said}" if faults else f"{report_name}: correct {said}")
     return 1 if faults else 0
 
 
