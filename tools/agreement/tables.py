@@ -1,10 +1,10 @@
 """Do the documents, the manual pages and the completions say what the fronts of mcg and mcg6 say?
 
 The tables of commands and the pages of the commands are in crates/command_table/src; the words for errors, which are constants, the
-functions that choose among them, and the versions are in crates/front_words/src. The rows of the usage of mcg are compared with the table of README, the synopsis of its manual page and its
-completion for bash; those of mcg6, with its properties, with its manual page, its completion, the table of FORMATS and the words that
-mcg6_top reads; each page with the rows of its command; the words for kinds of errors with the table of FORMATS; the headers and limits
-with the sections of FORMATS; the versions with VERSION; and the logic that they name with README, CONTRIBUTING and, where the kit is
+functions that choose among them, and the versions are in crates/front_words/src. The rows of the usage of mcg are compared with the
+table of README, the synopsis of its manual page and its completion for bash; those of mcg6, with its properties, with its manual page,
+its completion, the table of FORMATS and the words that mcg6_top reads; each page with the rows of its command; the words for kinds of
+errors with the table of FORMATS and with python/mcg/errors.py; the headers and limits with the sections of FORMATS; the versions with VERSION; and the logic that they name with README, CONTRIBUTING and, where the kit is
 there, what `rt version` prints. The name of a kit, which another machine has under another, stands in the records of GATE alone. It lists each that differs, and ends with 1 if
 there is any. It counts what it compared: fewer than `LEAST` of a kind is an error too, since then it has looked for something that the
 sources have in another form by now.
@@ -24,7 +24,7 @@ WRITTEN_OUT = {"first | last | balanced": "ORDER"}
 # The files that name no kit.
 KITLESS = ("*.md", "docs/**/*.md", "share/man/man1/*", "crates/front_words/src/*.rt", "crates/command_table/src/*.rt")
 # What is compared, and at least how many of each.
-LEAST = {"rows": 18, "pages": 17, "arguments": 20, "ranges": 2, "kinds": 15, "headers": 6, "limits": 7, "versions": 2, "logics": 4, "files": 50}
+LEAST = {"rows": 18, "pages": 17, "arguments": 20, "ranges": 2, "kinds": 30, "headers": 6, "limits": 7, "versions": 2, "logics": 4, "files": 50}
 # The text for a kind of error that a format does not have.
 UNSAID = "FAULT_OTHER"
 compared = collections.Counter()
@@ -100,9 +100,11 @@ def compare_commands(rows, readme):
 def compare_faults(faults, texts, formats):
     of_line, of_graph6 = (arms(faults, it, texts) for it in ("line_fault", "graph6_fault"))
     kinds = {**of_graph6, **of_line}
-    table = re.findall(r"^\| \d+ \| ([A-Z]\w+) \| (.*?) \|$", formats[:formats.index("## Graph format")], re.M)
-    same("the kinds of FORMATS", kinds, dict(table))
-    compared["kinds"] += len(kinds)
+    table = re.findall(r"^\| (\d+) \| ([A-Z]\w+) \| (.*?) \|$", formats[:formats.index("## Graph format")], re.M)
+    same("the kinds of FORMATS", kinds, {name: words for _, name, words in table})
+    faults_of_python = re.findall(r'^    (\d+): "(.*)",$', read("python/mcg/errors.py"), re.M)
+    same("the kinds of errors.py", {number: words for number, _, words in table}, dict(faults_of_python))
+    compared["kinds"] += len(kinds) + len(faults_of_python)
     for role, words in arms(faults, "header_note", texts).items():
         for header in re.findall(r"\b[a-z] mcg2?(?: [A-Z])+", words):
             compared["headers"] += 1
