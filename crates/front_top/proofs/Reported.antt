@@ -1,11 +1,12 @@
 -- What the program was given and what it printed, of a run of the front.
-use Rattle.std.proofs.Common.{◌≡◌, ℕ, List, [], ◌++◌, Bool, Option, Some, None, ap, subst, sym}
-use Rattle.bench_top.specs.from_outside.Common.{Answer, HasPrinted, HasSaid, LineState, NamedFile, NotesFiles, OpenState, PrintState}
+use Rattle.std.proofs.Common.{◌≡◌, ℕ, List, [], ◌++◌, Bool, false, Option, Some, None, ap, subst, sym}
+use Rattle.bench_top.specs.from_outside.Common.{Answer, HasPrinted, HasSaid, IsOpened, LineState, NamedFile, NotesFiles, OpenState, PrintState}
 use Rattle.bench_top.specs.from_outside.declared.explain.FailureReason.{FailureReason}
 use Rattle.bench_top.specs.from_bench_tasks.Common.{command_of}
 use Rattle.bench_top.specs.from_bench_outcomes.Common.{IsSettled, code_of}
 use Rattle.bench_top.specs.from_bench_outcomes.declared.status.Status.{Status}
-use Rattle.bench_top.specs.Installed.{IsReportOn}
+use Rattle.bench_top.specs.Installed.{IsReportOn, nothing_given, nothing_printed}
+use Rattle.bench_top.specs.Runs.{Runs}
 use Rattle.bench_top.proofs.Reported.{reported-other}
 use Rattle.front_words.specs.Answers.{answer_of}
 use Rattle.front_words.specs.declared.programs.Program.TheVariants.{Mcg}
@@ -28,16 +29,23 @@ module _ {S : Type 0} (holds : S → Option (List NamedFile)) (is_steady : S →
 abbrev IsSaidOf : Message → (words : List (List ℕ)) → (is_abandoned : Bool) → (before now : LineState) → Type 0
 IsSaidOf said words is_abandoned before now = IsSaid (λ (k : LineState). None) HasSaid (λ (k : LineState). k.faults) (message_words words said is_abandoned) before now
 
+-- a run of `run` of these words, of a shelf of real files and a stream of a runtime
+abbrev pub RanFrom : (words : List (List ℕ)) → Status → (first last : OpenState) → (before now : PrintState) → Type 0
+RanFrom words status first last before now = Runs (λ (s : OpenState). None) (λ (s : OpenState). false) (λ (s : OpenState). s.faults) IsOpened (λ (k : PrintState). Some k.printed) HasPrinted (λ (k : PrintState). k.faults)
+    (command_of words) status first last before now
+
 module _ (holds : OpenState → Option (List NamedFile)) (is_steady : OpenState → Bool) (faults : OpenState → ℕ) (reads : OpenState → List ℕ → Answer → OpenState → Type 0) (notes : NotesFiles reads (λ (s : OpenState). s.given))
     (sink_faults : PrintState → ℕ) where
   pub ends_from : (words given : List (List ℕ)) (is_quiet is_abandoned : Bool) (status : Status) (said : Message) (first last shelf : OpenState) (before now sink : PrintState) (code : ℕ) → words ≡ given → first.given ≡ [] → before.printed ≡ [] →
       shelf ≡ last → sink ≡ now → code ≡ code_of status → is_abandoned ≡ now.is_abandoned →
       (spoken : List (List ℕ)) (fresh spoke errors : LineState) → spoken ≡ words → fresh ≡ nothing_said → errors ≡ spoke → IsSaidOf said spoken is_abandoned fresh spoke →
-      Fronts holds is_steady faults reads (λ (s : OpenState). s.reason) (λ (k : PrintState). Some k.printed) HasPrinted sink_faults words is_quiet is_abandoned status said first last before now → EndsOn given code shelf sink errors
-  ends_from words given is_quiet is_abandoned status said first last shelf before now sink code same none_given none_printed to_shelf to_sink is abandoned spoken fresh spoke errors spoken_is fresh_is to_errors says fronts =
+      Fronts holds is_steady faults reads (λ (s : OpenState). s.reason) (λ (k : PrintState). Some k.printed) HasPrinted sink_faults words is_quiet is_abandoned status said first last before now →
+      (answer_of Mcg words ≡ None → RanFrom words status nothing_given last nothing_printed now) → EndsOn given code shelf sink errors
+  ends_from words given is_quiet is_abandoned status said first last shelf before now sink code same none_given none_printed to_shelf to_sink is abandoned spoken fresh spoke errors spoken_is fresh_is to_errors says fronts ran =
       let e : EndsOn words code last now errors = record {
         status = status;
         is_code = is;
+        ran = ran;
         reported = front-reported holds is_steady faults reads (λ (s : OpenState). s.reason) (λ (s : OpenState). s.given) notes sink_faults words is_quiet is_abandoned status said first last before now none_given none_printed fronts;
         is_quiet = is_quiet;
         message = said;
