@@ -22,7 +22,7 @@ use Rattle.front_words.specs.Showing.{shown}
 use Rattle.front_words.specs.from_refusals.declared.file_kind.FileKind.TheVariants.{Graph}
 use Rattle.front_words.specs.Messages.{bad_file_text, fault_text, line_shown, outside_text, some_line, too_long_text, unless_empty, what_text}
 use Rattle.front_words.specs.Programs.{name_of}
-use Rattle.front_words.specs.Unmatched.{help_beyond, meant, meant_text, mismatch_text, some_reason_text, unless_help, unmatched_text}
+use Rattle.front_words.specs.Unmatched.{asked_text, asks_twice, behind_text, exchange_text, help_beyond, is_exchanged, known_text, meant, meant_text, mismatch_text, some_reason_text, twice_text, unless_help, unless_version, unmatched_text, version_beyond}
 use Rattle.front_words.specs.Unread.{dash_note, unread_noted_text}
 use Rattle.front_words.specs.from_command_table.Pages.{command_line, command_lines}
 use Rattle.front_words.specs.from_command_table.Reasons.{Mismatch, Unknown, TooMany, TooFew, Wrong, why_unmatched}
@@ -145,18 +145,46 @@ usage-ends =
     behind (codes "usage: mcg6 COMMAND [ARGUMENT]... <LIST\n") _ (behind (rows_lines list_rows) _ (behind (rows_notes list_rows) _
     (codes "The list is standard input or FILE, with a graph in graph6 on each line.\nWith skip, bad lines are left out and named on standard error.\nFORMATS.md describes the lines that mcg6 writes.", refl)))
 
+exchange-closed : (reason : Option Mismatch) (words : List (List ℕ)) → IsClosedText (exchange_text (name_of Mcg6) reason words)
+exchange-closed None words = inl refl
+exchange-closed (Some Unknown) words = inl refl
+exchange-closed (Some TooMany) words = inl refl
+exchange-closed (Some (TooFew missing)) words = inl refl
+exchange-closed (Some (Wrong wanted)) words =
+    line-closed (is_exchanged wanted words) (name_of Mcg6 ++ (texts.EXCHANGED.now ++ codes "\n")) (behind (name_of Mcg6) _ (behind texts.EXCHANGED.now _ feed))
+
+behind-closed : (command : List ℕ) (reason : Option Mismatch) (words : List (List ℕ)) → IsClosedText (behind_text Mcg6 command reason words)
+behind-closed command reason words =
+    IsClosedText-append (exchange_text (name_of Mcg6) reason words) (command_lines command list_rows) (exchange-closed reason words) (lines-closed command list_rows rows-end)
+
 meant-closed : (words : List (List ℕ)) (command : Option (List ℕ)) → IsClosedText (meant_text Mcg6 words command)
 meant-closed words None = inr usage-ends
 meant-closed words (Some command) =
-    IsClosedText-append (mismatch_text (name_of Mcg6) command (why_unmatched list_rows words)) (command_lines command list_rows)
-    (mismatch-closed (name_of Mcg6) command (why_unmatched list_rows words)) (lines-closed command list_rows rows-end)
+    IsClosedText-append (mismatch_text (name_of Mcg6) command (why_unmatched list_rows words)) (behind_text Mcg6 command (why_unmatched list_rows words) words)
+    (mismatch-closed (name_of Mcg6) command (why_unmatched list_rows words)) (behind-closed command (why_unmatched list_rows words) words)
+
+either-closed : (first : Bool) (one two : List ℕ) → IsClosedText one → IsClosedText two → IsClosedText (if first then one else two)
+either-closed true one two closed also = closed
+either-closed false one two closed also = also
+
+known-closed : (words : List (List ℕ)) → IsClosedText (known_text Mcg6 words)
+known-closed words =
+    either-closed (asks_twice words) (twice_text (name_of Mcg6)) (meant_text Mcg6 words (meant words))
+    (inr (behind (name_of Mcg6) _ (behind texts.HELP_TAKES.now _ (behind (name_of Mcg6) _ (behind texts.HELP_LISTS.now _ feed))))) (meant-closed words (meant words))
+
+version-closed : (word : Option (List ℕ)) (name text : List ℕ) → IsClosedText text → IsClosedText (unless_version word name text)
+version-closed None name text closed = closed
+version-closed (Some word) name text closed = inr (behind name _ (behind texts.TOO_MANY.now _ (behind (shown 60 word) _ feed)))
+
+asked-closed : (words : List (List ℕ)) → IsClosedText (asked_text Mcg6 words)
+asked-closed words = version-closed (version_beyond words) (name_of Mcg6) (known_text Mcg6 words) (known-closed words)
 
 unless-closed : (word : Option (List ℕ)) (name text : List ℕ) → IsClosedText text → IsClosedText (unless_help word name text)
 unless-closed None name text closed = closed
 unless-closed (Some word) name text closed = inr (behind name _ (behind texts.TOO_MANY.now _ (behind (shown 60 word) _ (behind texts.ONE_COMMAND.now _ feed))))
 
 unmatched-closed : (words : List (List ℕ)) → IsClosedText (unmatched_text Mcg6 words)
-unmatched-closed words = unless-closed (help_beyond words) (name_of Mcg6) (meant_text Mcg6 words (meant words)) (meant-closed words (meant words))
+unmatched-closed words = unless-closed (help_beyond words) (name_of Mcg6) (asked_text Mcg6 words) (asked-closed words)
 
 -- what is said of an ending
 lost-ends : Ends lost_words
