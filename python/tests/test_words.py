@@ -37,7 +37,7 @@ def in_labels(report, words, graph):
         words = words.replace("the shore shown", f"the shore {vertices(' '.join(numbers[numbers.index('cut') + 1 :]))}")
     if "berge" in numbers:
         words = words.replace("the vertices shown", f"the vertices {vertices(' '.join(numbers[3:]))}")
-        words = re.sub("as without the vertices {} .*", "as the number of its vertices is odd", words)
+        words = re.sub("matching: deleting the vertices {} .*", "matching, as the number of its vertices is odd", words)
     words = re.sub(", shore((?: [0-9]+)+)", lambda it: f", shore {vertices(it[1])}", words)
     words = re.sub(r"\bedge ([0-9]+)", lambda it: f"edge {shown(graph.edge(int(it[1])))}", words)
     return re.sub("vertex ([0-9]+)", lambda it: f"vertex {shown(graph.label(int(it[1])))}", words)
