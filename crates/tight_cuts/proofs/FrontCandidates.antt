@@ -9,7 +9,7 @@ use Rattle.quick_kinds.specs.from_separation_kit.Common.{separation_cuts, separa
 use Rattle.tight_cuts.proofs.CandidateLists.{candidate-list, fold-cuts, choose-false, choose-true}
 use Rattle.tight_cuts.proofs.EdgeLoop.{after_edges, after_suc, shore_cuts}
 use Rattle.tight_cuts.proofs.Shores.{with_new}
-use Rattle.tight_cuts.specs.Common.{Barrier, Candidate, Flow, Origin, Separation, candidate_at, candidates, common_shore, cuts, first_of, first_separated, front_candidates, greater_end, lesser_end, with_edge_cut, with_list, with_intersection, with_shore, IsShoreOfEdge}
+use Rattle.tight_cuts.specs.Common.{Barrier, Candidate, Flow, Origin, Separation, candidate_at, candidates, common_shore, cuts, first_of, first_separated, front_candidates, greater_end, lesser_end, with_edge_cut, with_edge_cuts, with_list, with_intersection, with_shore, IsShoreOfEdge}
 
 -- the cuts of shores, as candidates
 cuts-candidates : (n : ℕ) (o : Origin) (shores : List (List ℕ)) → fold (with_list n o) [] shores ≡ map (candidate_at n o) (fold (with_cut n) [] shores)
@@ -84,10 +84,17 @@ module _ (g : Graph) (list : List Candidate) (e : ℕ) where
       ∙ sym (with_new g Flow list (mem s) e is we (nontrivial-same g.order common (mem s) (λ v wv. sym (found.2 v wv)) wide.0) (same ∙ wide.1) unlisted))
 
 -- one edge more
+pub edges-next : (g : Graph) (start list after : List Candidate) (k : ℕ) → list ≡ after_edges g start k → after ≡ with_edge_cut g list (k + 1) → after ≡ after_edges g start (k + 1)
+edges-next g start list after k h q = grind (arith, after_edges g start k, after_suc g start k, after_edges g start)
+
 pub edges-more : (g : Graph) (list after : List Candidate) (k : ℕ) → list ≡ after_edges g (front_candidates g) k → after ≡ with_edge_cut g list (k + 1) → after ≡ after_edges g (front_candidates g) (k + 1)
-edges-more g list after k h q = grind (arith, after_edges g (front_candidates g) k, after_suc g (front_candidates g) k, after_edges g (front_candidates g))
+edges-more g list after k h q = edges-next g (front_candidates g) list after k h q
 
 -- after all edges
 pub edges-all : (g : Graph) (list : List Candidate) (k : ℕ) → k ≡ size g → list ≡ after_edges g (front_candidates g) k → list ≡ candidates g
 unfolding candidates
 edges-all g list k q h = h ∙ ap (after_edges g (front_candidates g)) q
+
+pub all_edges : (g : Graph) (front list : List Candidate) → front ≡ front_candidates g → list ≡ with_edge_cuts g front → list ≡ candidates g
+unfolding candidates
+all_edges g front list h q = q ∙ ap (with_edge_cuts g) h

@@ -23,6 +23,7 @@ pub mod TurnedEdges
 pub mod ThirdEdges
 pub mod SurplusShores
 pub mod ClusteredVertices
+pub mod UnderlyingGraphs
 pub mod LiftedCandidates
 pub mod ClustersAtPlaces
 pub mod PartitionCandidates

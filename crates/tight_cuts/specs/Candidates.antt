@@ -80,13 +80,17 @@ first_separated g e = find (is_separated g (lesser_end g e) (greater_end g e)) (
 abbrev pub with_edge_cut : Graph → List Candidate → ℕ → List Candidate
 with_edge_cut g list e = if list_any (cuts g e) list then list else with_intersection g (lesser_end g e) (greater_end g e) list (first_separated g e)
 
+-- the list with what all edges give, by number
+abbrev pub with_edge_cuts : Graph → List Candidate → List Candidate
+with_edge_cuts g list = fold (with_edge_cut g) list (rising_list (size g) everything)
+
 -- part 1 and part 2: the cuts of barriers, then those of separations
 unfoldable pub front_candidates : Graph → List Candidate
 front_candidates g = fold (with_list g.order Separation) (fold (with_list g.order Barrier) [] (barrier_shores g)) (separation_shores g)
 
 -- the candidates of a covered graph, in order: after the two parts, what the edges give, by number
 unfoldable pub candidates : Graph → List Candidate
-candidates g = fold (with_edge_cut g) (front_candidates g) (rising_list (size g) everything)
+candidates g = with_edge_cuts g (front_candidates g)
 
 -- the shore is a tight, nontrivial and canonical one, as a rising list, and the two numbers are
 -- those of its sides

@@ -8,4 +8,5 @@ pub mod View
 pub mod CandidatesAt
 pub mod EdgeDigraphs
 pub mod QuietEdges
+pub mod UnderlyingGraphs
 pub mod Common

@@ -3,7 +3,7 @@
 ghost use Rattle.std.specs.Prelude.{◌≡◌, ℕ, ◌≤◌, IfOk, OnOk};
 ghost use Rattle.graph_core.specs.from_counting.Common.{Within};
 ghost use Rattle.graph_core.specs.Common.{Graph, size};
-ghost use Rattle.tight_cuts.specs.Candidates.{candidates, front_candidates, with_edge_cut};
+ghost use Rattle.tight_cuts.specs.Candidates.{with_edge_cut, with_edge_cuts};
 ghost use Rattle.tight_cuts.specs.Clusters.{AreClusters};
 ghost use Rattle.tight_cuts.specs.EdgeSearch.{IsShoreOfEdge};
 
@@ -80,9 +80,8 @@ pub(crate) fn add_edge_cuts<S: EdgeSearch>(
     requires within { known ≤ size c.now }
     requires settled { (e : ℕ) → Within known e →
         list.old ≡ with_edge_cut c.now list.old e }
-    requires front { list.old ≡ front_candidates c.now }
     ensures clusters { OnOk result (AreClusters c.now clusters.new) }
-    ensures list { OnOk result (list.new ≡ candidates c.now) }
+    ensures list { OnOk result (list.new ≡ with_edge_cuts c.now list.old) }
 {
     for k in known..c.size() {
         add_edge_cut(alloc, c, search, clusters, k + 1, list)?;

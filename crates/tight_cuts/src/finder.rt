@@ -4,7 +4,7 @@ ghost use Rattle.std.specs.List.{AllPairs, list_any};
 ghost use Rattle.std.specs.Option.{option_map};
 ghost use Rattle.graph_core.specs.from_counting.Common.{Within, mem, Set};
 ghost use Rattle.graph_core.specs.Common.{IsCovered, in_cut, size, HasOnlyTrivialTightCuts, IsNontrivial, IsTight};
-ghost use Rattle.tight_cuts.specs.Common.{AreClusters, AreFloodsOf, IsTightCandidate, ShoresDiffer, candidates, cuts, first_of, first_shore, front_candidates, with_edge_cut, candidate_of};
+ghost use Rattle.tight_cuts.specs.Common.{AreClusters, AreFloodsOf, IsTightCandidate, ShoresDiffer, candidates, cuts, first_of, first_shore, front_candidates, with_edge_cut, with_edge_cuts, candidate_of};
 
 use crate::bipartite::FloodSearch;
 use crate::candidate::{Candidate, CandidateList, any_cuts};
@@ -14,6 +14,7 @@ use crate::edge_search::NetworkSearch;
 use crate::front::{first_front_candidate, front_candidates};
 use crate::joining::join_by_floods;
 use crate::matchings::Matchings;
+use crate::underlying::underlying;
 use graph_core::MultiGraph;
 use graph_core::vset_core::VSet;
 use quick_kinds::is_brace;
@@ -50,16 +51,15 @@ fn edges_settled(c: &Covered, clusters: &Clusters, list: &CandidateList) -> u32
 }
 
 // Adds what the edges of any graph give. No matching is made if each is settled.
-fn add_network_cuts(
+fn add_cuts_of_edges(
     alloc: Global,
     c: &Covered,
     clusters: &mut Clusters,
     list: &mut CandidateList,
 ) -> Result<(), Memory>
-    requires clusters { AreClusters c.now clusters.old }
-    requires front { list.old ≡ front_candidates c.now }
+    requires { AreClusters c.now clusters.old }
     ensures clusters { OnOk result (AreClusters c.now clusters.new) }
-    ensures list { OnOk result (list.new ≡ candidates c.now) }
+    ensures list { OnOk result (list.new ≡ with_edge_cuts c.now list.old) }
 {
     join_by_floods(alloc, c, list, clusters)?;
     let known = edges_settled(c, clusters, list);
@@ -77,7 +77,32 @@ fn add_network_cuts(
     )
 }
 
+// Adds what the edges of any graph give. Of parallel edges one is searched: if the graph has any,
+// the search goes through its underlying simple graph, whose edges give the same in the same order.
+#[tactic(auto, using(crate::proofs::FrontCandidates::all_edges, crate::proofs::UnderlyingGraphs::candidates_below, crate::proofs::UnderlyingGraphs::clusters_above, crate::proofs::UnderlyingGraphs::clusters_below, crate::proofs::UnderlyingGraphs::covered_below))]
+fn add_network_cuts(
+    alloc: Global,
+    c: &Covered,
+    clusters: &mut Clusters,
+    list: &mut CandidateList,
+) -> Result<(), Memory>
+    requires clusters { AreClusters c.now clusters.old }
+    requires front { list.old ≡ front_candidates c.now }
+    ensures clusters { OnOk result (AreClusters c.now clusters.new) }
+    ensures list { OnOk result (list.new ≡ candidates c.now) }
+{
+    c.keeps_covered();
+    let simple = underlying(alloc, c.graph())?;
+    simple.keeps_limits();
+    if simple.size() == c.size() {
+        return add_cuts_of_edges(alloc, c, clusters, list);
+    }
+    let below = Covered::known(alloc, &simple)?;
+    add_cuts_of_edges(alloc, &below, clusters, list)
+}
+
 // Adds what the edges of a bipartite graph give.
+#[tactic(auto, using(crate::proofs::FrontCandidates::all_edges))]
 fn add_flood_cuts(
     alloc: Global,
     bipartite: &Bipartite,

@@ -35,6 +35,7 @@ mod pieces;
 mod quick_tightness;
 mod quiet_edges;
 mod tightness;
+mod underlying;
 
 // Passed on to the crates above.
 pub use at_places::{candidates_at_place, candidates_from_clusters, first_at_place};
