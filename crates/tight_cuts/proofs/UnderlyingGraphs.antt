@@ -15,17 +15,19 @@ step_cases : (g : Graph) (k : ℕ) → ((adjacent (underlying g k) none (first_e
 unfolding underlying
 step_cases g k = grind arith
 
-pub underlying-none : (g : Graph) → record { order = g.order; ends = [] } ≡ underlying g zero
+pub underlying-none : (g : Graph) → underlying g zero ≡ record { order = g.order; ends = [] }
 unfolding underlying
 underlying-none g = refl
+
+size-none : (g : Graph) → size (underlying g zero) ≡ 0
+size-none g = ap size (underlying-none g)
 
 pub underlying-next : (g : Graph) (k : ℕ) → with_first_edge (underlying g k) (first_end g (k + 1)) (second_end g (k + 1)) ≡ underlying g (k + 1)
 unfolding underlying
 underlying-next g k = let next : suc k ≡ k + 1 = omega arith in subst (λ (i : ℕ). with_first_edge (underlying g k) (first_end g i) (second_end g i) ≡ underlying g i) next refl
 
 pub underlying-order : (g : Graph) (k : ℕ) → (underlying g k).order ≡ g.order
-unfolding underlying
-underlying-order g zero = refl
+underlying-order g zero = ap (λ (h : Graph). h.order) (underlying-none g)
 underlying-order g (suc k) = elim (step_cases g k) [
   | inl c ↦ ap (λ (h : Graph). h.order) c.1 ∙ underlying-order g k
   | inr c ↦ ap (λ (h : Graph). h.order) c.1 ∙ underlying-order g k
@@ -35,8 +37,7 @@ size-new : (h : Graph) (a b : ℕ) → size (with_edge h a b) ≡ suc (size h)
 size-new h a b = let more = length-append h.ends ((a, b) ∷ []) in omega arith
 
 pub underlying-few : (g : Graph) (k : ℕ) → size (underlying g k) ≤ k
-unfolding underlying
-underlying-few g zero = omega arith
+underlying-few g zero = let same = size-none g in omega arith
 underlying-few g (suc k) = let few = underlying-few g k in elim (step_cases g k) [
   | inl c ↦ let same = ap size c.1 in omega arith
   | inr c ↦ let same = ap size c.1 ∙ size-new (underlying g k) (first_end g (suc k)) (second_end g (suc k)) in omega arith
@@ -74,8 +75,7 @@ nothing_new g k h pairs joined u v = go (has_ends g u v (suc k)) refl
     go true is = let all = known (sym is) in all ∙ sym (ap (λ (b : Bool). b || has_ends g u v (suc k)) all)
 
 pub underlying-pairs : (g : Graph) (k : ℕ) (u v : ℕ) → adjacent (underlying g k) none u v ≡ some k (has_ends g u v)
-unfolding underlying
-underlying-pairs g zero u v = refl
+underlying-pairs g zero u v = ap (λ (h : Graph). adjacent h none u v) (underlying-none g)
 underlying-pairs g (suc k) u v = elim (step_cases g k) [
   | inl c ↦ ap (λ (h : Graph). adjacent h none u v) c.1 ∙ underlying-pairs g k u v ∙ nothing_new g k (underlying g k) (underlying-pairs g k) c.0 u v
   | inr c ↦ ap (λ (h : Graph). adjacent h none u v) c.1
@@ -123,7 +123,7 @@ kept_later g k (suc m) j l w = elim (cases_eq k (suc m)) [
 kept_last : (g : Graph) (k : ℕ) → underlying g (suc k) ≡ with_edge (underlying g k) (first_end g (suc k)) (second_end g (suc k)) →
     (size (underlying g (suc k)) ≡ suc (size (underlying g k))) × (first_end (underlying g (suc k)) (suc (size (underlying g k))) ≡ first_end g (suc k)) × (second_end (underlying g (suc k)) (suc (size (underlying g k))) ≡ second_end g (suc k))
 kept_last g k new =
-    let last = get_or_push (underlying g k).ends (first_end g (suc k), second_end g (suc k)) (0, 0) (size (underlying g k)) refl in (
+    let last = get_or_push (underlying g k).ends (first_end g (suc k), second_end g (suc k)) (0, 0) (suc (size (underlying g k)) - 1) (omega arith) in (
       ap size new ∙ size-new (underlying g k) (first_end g (suc k)) (second_end g (suc k)),
       ap (λ (h : Graph). first_end h (suc (size (underlying g k)))) new ∙ ap (λ (p : ℕ × ℕ). p.0) last,
       ap (λ (h : Graph). second_end h (suc (size (underlying g k)))) new ∙ ap (λ (p : ℕ × ℕ). p.1) last,
@@ -255,8 +255,7 @@ module _ (g : Graph) (is : IsGraph g) where
 
     -- so both graphs give the same candidates
     lists_same : IsGraph simple → (k : ℕ) → k ≤ size g → after_edges simple list (size (underlying g k)) ≡ after_edges g list k
-    unfolding underlying
-    lists_same is_simple zero l = refl
+    lists_same is_simple zero l = ap (after_edges simple list) (size-none g)
     lists_same is_simple (suc k) l = elim (step_cases g k) [
       | inl c ↦ ap (λ (h : Graph). after_edges simple list (size h)) c.1 ∙ lists_same is_simple k (omega arith) ∙ sym (settled k l c.0) ∙ sym (after_suc g list k)
       | inr c ↦
