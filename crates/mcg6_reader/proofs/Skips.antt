@@ -10,7 +10,7 @@ use Rattle.mcg6_reader.specs.declared.ending.InputEnding.TheVariants.{Done, Bad,
 use Rattle.mcg6_reader.specs.declared.ending.ListStop.{ListStop}
 use Rattle.mcg6_reader.specs.declared.ending.ListStop.TheVariants as stop
 use Rattle.mcg6_reader.specs.declared.place.LinePlace.{LinePlace}
-use Rattle.mcg6_reader.specs.Common.{is_header, lines_of, HasNoFeed, IsFirstLine, place_after, place_behind, LineTold, NamesBad, IsReportOn, IfBad, Reports, IsOneFound, AllTold, BeginningTold, ToldToBad, Added, ToldThrough, Reported, ReportsWith, ending_of}
+use Rattle.mcg6_reader.specs.Common.{is_header, lines_of, HasNoFeed, IsFirstLine, place_after, place_behind, LineTold, NamesBad, IsReportOn, IfBad, start_of, Reports, IsOneFound, AllTold, BeginningTold, ToldToBad, Added, ToldThrough, Reported, ReportsWith, ending_of}
 use Rattle.mcg6_reader.proofs.Joins.{BeginningTold-none, AllTold-append, BeginningTold-behind, ToldToBad-behind}
 use Rattle.mcg6_reader.proofs.Pieces.{through_begins, through_more, through_stopped, through_long, end_told, end_stopped}
 
@@ -23,7 +23,7 @@ told_skipped tells n line output other short told = record { more = []; right = 
 -- one more report
 pub pushed_one :
     (number : ℕ) (kind : FaultKind) (text : List ℕ) (found : BadLine) (before now : List BadLine) →
-    IsReportOn number kind text found → now ≡ before ++ found ∷ [] → Added (IsOneFound number kind text) before now
+    IsReportOn number kind (start_of text) found → now ≡ before ++ found ∷ [] → Added (IsOneFound number kind text) before now
 pushed_one number kind text found before now is pushed = record { more = found ∷ []; right = (found, is, refl); output = pushed }
 
 -- a line that is not skipped has no report

@@ -1,6 +1,6 @@
 -- The result for a line.
 -- Stated by: mcg6_reader, mcg6_top.
-use Rattle.std.specs.Prelude.{◌≡◌, ℕ, ◌<◌, ◌≤◌, ◌⊎◌, List, [], ◌∷◌, ◌++◌, length, IsTrue, IsFalse, Option, Some, None}
+use Rattle.std.specs.Prelude.{◌≡◌, ℕ, ◌<◌, ◌≤◌, ◌⊎◌, List, [], ◌∷◌, ◌++◌, length, take, IsTrue, IsFalse, Option, Some, None}
 use Rattle.outside.specs.Common.{most_line}
 use Rattle.line_text.specs.declared.faults.FaultKind.{FaultKind}
 use Rattle.line_text.specs.declared.faults.FaultKind.TheVariants.{Limit}
@@ -49,16 +49,22 @@ pub record IsReportOn (number : ℕ) (kind : FaultKind) (text : List ℕ) (found
   pub of_kind : found.kind ≡ kind
   pub kept : found.text.items ≡ text
 
+-- what is kept of the text of a skipped line: its first 64 bytes, which are all that a message
+-- shows of it
+abbrev pub start_of : (line : List ℕ) → List ℕ
+start_of line = take 64 line
+
 -- the reports on a line of a list that goes on after it: one if the line is skipped, with its
--- number, the kind of its first error, and its text; and else none
+-- number, the kind of its first error, and its first 64 bytes; and else none
 abbrev pub Reports : (LinePlace → List ℕ → Option FaultKind → Type 0) → LinePlace → List ℕ → List BadLine → Type 0
 Reports skips place line [] = skips place line None
-Reports skips place line (found ∷ []) = skips place line (Some found.kind) × IsReportOn place.number found.kind line found
+Reports skips place line (found ∷ []) = skips place line (Some found.kind) × IsReportOn place.number found.kind (start_of line) found
 Reports skips place line (found ∷ other ∷ founds) = ⊥
 
--- these are just one report on a line: its number, the kind of its first error, and its text
+-- these are just one report on a skipped line: its number, the kind of its first error, and its
+-- first 64 bytes
 abbrev pub IsOneFound : (number : ℕ) (kind : FaultKind) (text : List ℕ) → List BadLine → Type 0
-IsOneFound number kind text founds = (found : BadLine) × (IsReportOn number kind text found) × (founds ≡ found ∷ [])
+IsOneFound number kind text founds = (found : BadLine) × (IsReportOn number kind (start_of text) found) × (founds ≡ found ∷ [])
 
 -- if a bad line is why the processing stops, its report has this property
 abbrev pub IfBad : (BadLine → Type 0) → ListStop → Type 0

@@ -1,14 +1,14 @@
 //! How the processing of a list ends.
 ghost use Rattle.std.specs.Prelude.{◌≡◌, IfErr, IfOk, OnOk};
-ghost use Rattle.mcg6_reader.specs.Common.{Added, IfBad, IsReportOn, IsOneFound};
+ghost use Rattle.mcg6_reader.specs.Common.{Added, IfBad, IsReportOn, IsOneFound, start_of};
 ghost use Rattle.mcg6_reader.specs.declared.ending.ListStop.TheVariants.{Memory};
 
 use line_text::FaultKind;
 use std::alloc::Global;
 
 /// A report on a bad line of a list: its number, counted from 1, the kind of its first error, and
-/// its text with its line end, as far as it was kept; if the line is too long, the part that was
-/// read. If a line is missing at the end of the list, its number is one past the last, and its text
+/// its text with its line end, as far as it was kept: of a skipped line the first 64 bytes, and of
+/// a line that is too long the part that was read. If a line is missing at the end of the list, its number is one past the last, and its text
 /// is empty.
 #[derive(Debug, PartialEq, Eq, Drop)]
 pub struct BadLine {
@@ -66,7 +66,17 @@ pub fn stop_at(alloc: Global, number: u64, kind: FaultKind, text: &[u8]) -> List
     }
 }
 
-// Adds a report on a line of this number and text, with an error of this kind.
+/// How many bytes are kept of the text of a skipped line.
+const MOST_KEPT: usize = 64;
+
+// The first bytes of a line: all that is kept of a skipped one.
+fn start_of(line: &[u8]) -> &[u8]
+    ensures { result.now ≡ start_of line.now }
+{
+    &line[..MOST_KEPT.min(line.len())]
+}
+
+// Adds a report on a skipped line of this number and text, with an error of this kind.
 #[tactic(auto, using(crate::proofs::Skips::pushed_one))]
 pub fn report_skipped(
     alloc: Global,
@@ -80,7 +90,7 @@ pub fn report_skipped(
     ensures same { IfErr result (λ _. skipped.new.items ≡ skipped.old.items) }
     ensures memory { IfErr result (λ stop. stop ≡ Memory) }
 {
-    match report_on(alloc, number, kind, text) {
+    match report_on(alloc, number, kind, start_of(text)) {
         Ok(found) => match skipped.push(found) {
             Ok(()) => Ok(()),
             Err(_) => Err(ListStop::Memory),

@@ -1,9 +1,9 @@
 -- Each list comes to an end that its bytes settle, if each of its lines has an output or a first
 -- error. Idea: the lines are gone through up to the first at which the list ends; what is told of
 -- the lines before it is put in front of that.
-use Rattle.std.proofs.Common.{◌≡◌, ◌∙◌, ◌⊎◌, inl, inr, ℕ, ◌+◌, ◌<◌, ◌≤◌, ◌^◌, List, [], ◌∷◌, ◌++◌, Bool, true, false, nat_lt, length, take, drop, refl, sym, subst, ap, arith, IsFalse, take-append-drop, Option, Some, None}
+use Rattle.std.proofs.Common.{◌≡◌, ◌∙◌, ◌⊎◌, inl, inr, ℕ, ◌+◌, ◌<◌, ◌≤◌, ◌^◌, List, [], ◌∷◌, ◌++◌, Bool, true, false, nat_lt, length, min, take, drop, refl, sym, subst, ap, arith, IsFalse, take-append-drop, Option, Some, None}
 use Rattle.std.specs.Global.{Vec}
-use Rattle.std.proofs.lemmas.List.{length-take-le}
+use Rattle.std.proofs.lemmas.List.{length-take, length-take-le}
 use Rattle.std.proofs.lemmas.Bool.Decides.{nat_tests}
 use Rattle.mcg6_encoder.specs.from_outside.Common.{most_line}
 use Rattle.line_text.specs.declared.faults.FaultKind.{FaultKind}
@@ -11,7 +11,7 @@ use Rattle.line_text.specs.declared.faults.FaultKind.TheVariants.{Limit}
 use Rattle.mcg6_lines.specs.declared.query.Query.{Query}
 use Rattle.mcg6_reader.proofs.Joins.{AllTold-one, GivesOutput-behind, HasBadLine-first}
 use Rattle.mcg6_reader.proofs.Skips.{Reported-behind}
-use Rattle.mcg6_reader.specs.Common.{is_header, GivesOutput, IsReportOn, IsKeptOfLine, LineTold, NamesBad, Reported, Reports, first_place, lines_of, place_after}
+use Rattle.mcg6_reader.specs.Common.{is_header, GivesOutput, IsReportOn, IsKeptOfLine, LineTold, NamesBad, Reported, Reports, start_of, first_place, lines_of, place_after}
 use Rattle.mcg6_reader.specs.declared.ending.BadLine.{BadLine}
 use Rattle.mcg6_reader.specs.declared.ending.InputEnding.{InputEnding}
 use Rattle.mcg6_reader.specs.declared.ending.InputEnding.TheVariants.{Done, Bad, ReadFault, WriteFault, Memory}
@@ -143,7 +143,8 @@ module _ (sample : Vec ℕ) where
       at_bad_line : (at : AtBadLine) (kind : FaultKind) → IsBadLine query place line kind → ComesOf (TellsOrSkips query at) (Reports (SkipsLine query at)) (ListStopsAt query at) (lacks_of query) place line
       at_bad_line Stop kind is = inr (kind, is)
       at_bad_line Skip kind is =
-          let found = report place.number kind line (omega arith) in
+          let size : length (start_of line) ≡ min 64 (length line) = length-take 64 line in
+          let found = report place.number kind (start_of line) (omega (arith, size, short)) in
           inl ([], found.0 ∷ [], inr ((kind, is), refl), (subst (λ (k : FaultKind). IsBadLine query place line k) (sym found.1.of_kind) is, record { numbered = found.1.numbered; of_kind = refl; kept = found.1.kept }))
 
   pub settled_end : (query : Query) (at_bad : AtBadLine) (bytes : List ℕ) → HasAnswer query → HasSettledEnd query at_bad bytes
