@@ -28,4 +28,4 @@ mod speaking;
 pub use ending::{ListFrontEnding, ListMessage};
 pub use fronting::run_list_front;
 pub use installed::{EndedListFront, program};
-pub use laws::{list_table_law, message_law, said_lines_law};
+pub use laws::{kept_line_law, list_table_law, message_law, said_lines_law};
