@@ -1,8 +1,8 @@
 -- The message on a bad line is the message on its first 64 bytes. Idea: what comes before the line is
 -- settled by its first 16 bytes; of the line itself at most 60 bytes are shown, and whether a
 -- character of up to four bytes begins at one of these is settled by the 64.
-use Rattle.std.proofs.Common.{◌≡◌, ◌∙◌, ◌×◌, ℕ, zero, suc, ◌+◌, ◌-◌, ◌<◌, ◌≤◌, ◌==◌, List, [], ◌∷◌, ◌++◌, Bool, true, false, length, take, nat_lt, codes, if◌then◌else◌, decimal, Option, Some, None, refl, sym, subst, ap, arith}
-use Rattle.std.specs.List.{slice_get, slice_split}
+use Rattle.std.proofs.Common.{◌≡◌, ◌∙◌, ℕ, zero, suc, ◌+◌, ◌-◌, ◌<◌, ◌≤◌, ◌==◌, List, [], ◌∷◌, ◌++◌, Bool, true, false, length, take, nat_lt, cond, codes, if◌then◌else◌, decimal, Option, Some, None, refl, sym, subst, ap, arith}
+use Rattle.std.specs.List.{onto_first, slice_get, slice_split}
 use Rattle.std.proofs.lemmas.List.{length-take}
 use Rattle.std.proofs.lemmas.Bool.Decides.{nat_tests}
 use Rattle.line_text.specs.Common.{is_line_feed, lines_of, lines_of_parts}
@@ -11,6 +11,7 @@ use Rattle.line_text.specs.declared.faults.FaultKind.{FaultKind}
 use Rattle.line_text.specs.declared.faults.FaultKind.TheVariants.{Header, Word, Number, Range, Loop, Limit, Missing, Extra, NotRising, HasGreatest, Unnamed, SameName, BadName, Padding, LongForm}
 use Rattle.mcg6_encoder.specs.from_outside.Common.{most_line}
 use Rattle.mcg6_top.specs.from_mcg6_reader.Told.{start_of}
+use Rattle.front_words.specs.Faults.{graph6_fault}
 use Rattle.front_words.specs.ListMessages.{bad_line_text, bad_line_words, is_blank_line, line_kept, list_fault, list_joint, long_line, short_line}
 use Rattle.front_words.specs.Messages.{line_shown, some_line}
 use Rattle.front_words.specs.Openings.{opening_note}
@@ -19,24 +20,24 @@ use Rattle.front_words.specs.declared.texts.TheConstants as texts
 
 -- what is said of the beginning of a line
 head-start : (text : List ℕ) →
-    (is_blank_line (take 64 text) ≡ is_blank_line text) × (opening_note (take 64 text) ≡ opening_note text) × ((length (take 64 text) == 0) ≡ (length text == 0))
-head-start [] = (refl, refl, refl)
-head-start (a ∷ []) = (refl, refl, refl)
-head-start (a ∷ b ∷ []) = (refl, refl, refl)
-head-start (a ∷ b ∷ c ∷ []) = (refl, refl, refl)
-head-start (a ∷ b ∷ c ∷ d ∷ []) = (refl, refl, refl)
-head-start (a ∷ b ∷ c ∷ d ∷ e ∷ []) = (refl, refl, refl)
-head-start (a ∷ b ∷ c ∷ d ∷ e ∷ f ∷ []) = (refl, refl, refl)
-head-start (a ∷ b ∷ c ∷ d ∷ e ∷ f ∷ g ∷ []) = (refl, refl, refl)
-head-start (a ∷ b ∷ c ∷ d ∷ e ∷ f ∷ g ∷ h ∷ []) = (refl, refl, refl)
-head-start (a ∷ b ∷ c ∷ d ∷ e ∷ f ∷ g ∷ h ∷ i ∷ []) = (refl, refl, refl)
-head-start (a ∷ b ∷ c ∷ d ∷ e ∷ f ∷ g ∷ h ∷ i ∷ j ∷ []) = (refl, refl, refl)
-head-start (a ∷ b ∷ c ∷ d ∷ e ∷ f ∷ g ∷ h ∷ i ∷ j ∷ k ∷ []) = (refl, refl, refl)
-head-start (a ∷ b ∷ c ∷ d ∷ e ∷ f ∷ g ∷ h ∷ i ∷ j ∷ k ∷ l ∷ []) = (refl, refl, refl)
-head-start (a ∷ b ∷ c ∷ d ∷ e ∷ f ∷ g ∷ h ∷ i ∷ j ∷ k ∷ l ∷ m ∷ []) = (refl, refl, refl)
-head-start (a ∷ b ∷ c ∷ d ∷ e ∷ f ∷ g ∷ h ∷ i ∷ j ∷ k ∷ l ∷ m ∷ n ∷ []) = (refl, refl, refl)
-head-start (a ∷ b ∷ c ∷ d ∷ e ∷ f ∷ g ∷ h ∷ i ∷ j ∷ k ∷ l ∷ m ∷ n ∷ o ∷ []) = (refl, refl, refl)
-head-start (a ∷ b ∷ c ∷ d ∷ e ∷ f ∷ g ∷ h ∷ i ∷ j ∷ k ∷ l ∷ m ∷ n ∷ o ∷ p ∷ text) = (refl, refl, refl)
+    (is_blank_line (take 64 text) ≡ is_blank_line text) × (opening_note (take 64 text) ≡ opening_note text)
+head-start [] = (refl, refl)
+head-start (a ∷ []) = (refl, refl)
+head-start (a ∷ b ∷ []) = (refl, refl)
+head-start (a ∷ b ∷ c ∷ []) = (refl, refl)
+head-start (a ∷ b ∷ c ∷ d ∷ []) = (refl, refl)
+head-start (a ∷ b ∷ c ∷ d ∷ e ∷ []) = (refl, refl)
+head-start (a ∷ b ∷ c ∷ d ∷ e ∷ f ∷ []) = (refl, refl)
+head-start (a ∷ b ∷ c ∷ d ∷ e ∷ f ∷ g ∷ []) = (refl, refl)
+head-start (a ∷ b ∷ c ∷ d ∷ e ∷ f ∷ g ∷ h ∷ []) = (refl, refl)
+head-start (a ∷ b ∷ c ∷ d ∷ e ∷ f ∷ g ∷ h ∷ i ∷ []) = (refl, refl)
+head-start (a ∷ b ∷ c ∷ d ∷ e ∷ f ∷ g ∷ h ∷ i ∷ j ∷ []) = (refl, refl)
+head-start (a ∷ b ∷ c ∷ d ∷ e ∷ f ∷ g ∷ h ∷ i ∷ j ∷ k ∷ []) = (refl, refl)
+head-start (a ∷ b ∷ c ∷ d ∷ e ∷ f ∷ g ∷ h ∷ i ∷ j ∷ k ∷ l ∷ []) = (refl, refl)
+head-start (a ∷ b ∷ c ∷ d ∷ e ∷ f ∷ g ∷ h ∷ i ∷ j ∷ k ∷ l ∷ m ∷ []) = (refl, refl)
+head-start (a ∷ b ∷ c ∷ d ∷ e ∷ f ∷ g ∷ h ∷ i ∷ j ∷ k ∷ l ∷ m ∷ n ∷ []) = (refl, refl)
+head-start (a ∷ b ∷ c ∷ d ∷ e ∷ f ∷ g ∷ h ∷ i ∷ j ∷ k ∷ l ∷ m ∷ n ∷ o ∷ []) = (refl, refl)
+head-start (a ∷ b ∷ c ∷ d ∷ e ∷ f ∷ g ∷ h ∷ i ∷ j ∷ k ∷ l ∷ m ∷ n ∷ o ∷ p ∷ text) = (refl, refl)
 
 -- the size of a unit is settled by four bytes
 size-start : (k : ℕ) (text : List ℕ) → unit_size (take (suc (suc (suc (suc k)))) text) ≡ unit_size text
@@ -113,18 +114,29 @@ front-take (suc k) (byte ∷ text) = stop-take (is_line_feed byte) byte k (front
 abbrev Begins : (text part : List ℕ) → Type 0
 Begins text part = (rest : List (List ℕ)) × (slice_split is_line_feed text ≡ part ∷ rest)
 
+split-by : (byte : ℕ) (text : List ℕ) (b : Bool) → is_line_feed byte ≡ b → Begins text (front text) → Begins (byte ∷ text) (stop b byte (front text))
+split-by byte text true is later =
+    (slice_split is_line_feed text, ap (λ (c : Bool). cond c ([] ∷ slice_split is_line_feed text) (onto_first byte (slice_split is_line_feed text))) is)
+split-by byte text false is later = (
+  later.0,
+  ap (λ (c : Bool). cond c ([] ∷ slice_split is_line_feed text) (onto_first byte (slice_split is_line_feed text))) is ∙ ap (onto_first byte) later.1,
+)
+
 split-front : (text : List ℕ) → Begins text (front text)
 unfolding front
 split-front [] = ([], refl)
-split-front (byte ∷ text) = by (is_line_feed byte) refl
-  where
-    by : (b : Bool) → is_line_feed byte ≡ b → Begins (byte ∷ text) (stop (is_line_feed byte) byte (front text))
-    by true is = rw is (slice_split is_line_feed text, refl)
-    by false is = let later = split-front text in rw (is, later.1) (later.0, refl)
+split-front (byte ∷ text) = split-by byte text (is_line_feed byte) refl (split-front text)
+
+some-length : (byte : ℕ) (text : List ℕ) → (length (byte ∷ text) == 0) ≡ false
+some-length byte text = grind (arith, nat_tests)
+
+none-start : (text : List ℕ) → (length (take 64 text) == 0) ≡ (length text == 0)
+none-start [] = refl
+none-start (byte ∷ text) = some-length byte (take 63 text) ∙ sym (some-length byte text)
 
 first-part : (part : List ℕ) (rest : List (List ℕ)) → some_line (slice_get (lines_of_parts (part ∷ rest)) 0) ≡ some_line (Some part)
 first-part [] [] = refl
-first-part (byte ∷ part) [] = refl
+first-part (byte ∷ part) [] = ap (λ (b : Bool). some_line (slice_get (if b then [] else (byte ∷ part) ∷ []) 0)) (some-length byte part)
 first-part part (next ∷ rest) = refl
 
 kept-front : (text : List ℕ) → line_kept text ≡ some_line (Some (front text))
@@ -156,7 +168,7 @@ fault-start Limit text short =
     let whole : nat_lt most_line (length text) ≡ false = grind (arith, nat_tests, short) in
     let part : nat_lt most_line (length (take 64 text)) ≡ false = grind (arith, nat_tests, short, size) in
     rw (whole, part) refl
-fault-start Missing text short = rw ((head-start text).2) refl
+fault-start Missing text short = ap (λ (b : Bool). if b then texts.LIST_ENDS.now else graph6_fault Missing) (none-start text)
 fault-start Extra text short = refl
 fault-start NotRising text short = refl
 fault-start HasGreatest text short = refl
