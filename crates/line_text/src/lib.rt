@@ -6,7 +6,7 @@
 //! has one `FirstFault`, and not both (`laws::exactly_one_law`). `read` returns the value or the
 //! error, unless memory runs out.
 //!
-//! To write a format (the picks in `tests.rt` are an example): (1) its rules in `specs/`, one
+//! To write a format (the picks in `tree_text` are an example): (1) its rules in `specs/`, one
 //! `checked` table a rule; (2) an `impl LineFormat` whose methods make the tests in the order of
 //! the tables; (3) its reader, a call of `read`; (4) for a writer, an induction that its lines lead
 //! to the value (`Begins`), and `written_text_stands_law`. All formats share the kinds of errors,
