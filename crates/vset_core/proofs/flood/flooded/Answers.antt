@@ -1,6 +1,6 @@
 use Rattle.counting.proofs.Common.{◌≡◌, ◌-◌, ◌||◌, ◌&&◌, ◌==◌, ℕ, [], ap, ◌∙◌, arith, length, not, get_or_read, mem, Within}
 use Rattle.vset_core.specs.Floods.{leads}
-use Rattle.vset_core.proofs.Floods.{flooding_step, flooding_less, flooding_end}
+use Rattle.vset_core.proofs.Floods.{flooding_start, flooding_step, flooding_less, flooding_end}
 use Rattle.vset_core.proofs.flood.flooded.Goals.{After-union-open}
 use Rattle.vset_core.proofs.flood.flooded.Goals as goal
 
@@ -18,15 +18,22 @@ open_is c w = c.union-open.ensures w ∙ ap (λ b. b || mem c.meet-new.result w)
 pub flooding-smaller : goal.flooding-smaller
 flooding-smaller c =
     let at = (goal.at.flooding-smaller c).After-union-open in
-    let less = flooding_less c.args.rows.now (mem c.args.within) (mem c.args.roots) (mem c.flooding.inner) (mem c.flooding.rest) (mem c.flooding.open) (mem c.with_inner-inner.result) (mem c.minus-rest-in-Some.result) (mem c.union-open.result) (mem c.index-rows-v.result) (mem c.meet-new.result) c.in-Some.v
-    c.flooding.invariant c.in-Some.ensures.some (row_is at) c.meet-new.ensures c.minus-rest-in-Some.ensures (open_is at) c.with_inner-inner.ensures.kept c.with_inner-inner.ensures.own (length c.args.rows.now) (there at) in
+    let less = flooding_less c.args.rows.now (mem c.args.within) (mem c.args.roots) (mem c.args.late) (mem c.flooding.inner) (mem c.flooding.rest) (mem c.flooding.open) (mem c.with_inner-inner.result) (mem c.minus-rest-in-Some.result) (mem c.union-open.result) (mem c.index-rows-v.result) (mem c.meet-new.result) c.in-Some.v
+    c.flooding.invariant c.in-Some.ensures.some (row_is at) c.meet-new.ensures c.minus-rest-in-Some.ensures (open_is at) c.with_inner-inner.ensures.kept c.with_inner-inner.ensures.own c.with_inner-inner.ensures.only c.in-Some.ensures.last (length c.args.rows.now) (there at) in
     omega arith
 
 pub flooding-preserved : goal.flooding-preserved
 flooding-preserved c =
     let at = (goal.at.flooding-preserved c).After-union-open in
-    flooding_step c.args.rows.now (mem c.args.within) (mem c.args.roots) (mem c.flooding.inner) (mem c.flooding.rest) (mem c.flooding.open) (mem c.with_inner-inner.result) (mem c.minus-rest-in-Some.result) (mem c.union-open.result) (mem c.index-rows-v.result) (mem c.meet-new.result) c.in-Some.v
-    c.flooding.invariant c.in-Some.ensures.some (row_is at) c.meet-new.ensures c.minus-rest-in-Some.ensures (open_is at) c.with_inner-inner.ensures.kept c.with_inner-inner.ensures.own
+    flooding_step c.args.rows.now (mem c.args.within) (mem c.args.roots) (mem c.args.late) (mem c.flooding.inner) (mem c.flooding.rest) (mem c.flooding.open) (mem c.with_inner-inner.result) (mem c.minus-rest-in-Some.result) (mem c.union-open.result) (mem c.index-rows-v.result) (mem c.meet-new.result) c.in-Some.v
+    c.flooding.invariant c.in-Some.ensures.some (row_is at) c.meet-new.ensures c.minus-rest-in-Some.ensures (open_is at) c.with_inner-inner.ensures.kept c.with_inner-inner.ensures.own c.with_inner-inner.ensures.only c.in-Some.ensures.last
 
-pub returns : goal.returns
-returns c = grind (arith, flooding_end, mem)
+pub returns-clause-flood : goal.returns-clause-flood
+returns-clause-flood c = grind (arith, flooding_end, mem)
+
+pub returns-clause-late : goal.returns-clause-late
+returns-clause-late c = c.flooding.invariant.spared
+
+pub flooding-init : goal.flooding-init
+flooding-init c =
+    flooding_start c.args.rows.now (mem c.args.within) (mem c.args.roots) (mem c.args.late) (mem c.empty-inner.result) (mem c.minus-rest.result) c.requires.roots (λ v. ap (λ xs. mem xs v) c.empty-inner.ensures) c.minus-rest.ensures
