@@ -59,30 +59,31 @@ pub(crate) fn exchanged(
     f: u32,
 ) -> Result<Vec<u32>, Memory> {
     let mut at = edges_at(alloc, g, found)?;
-    put_in(&mut at, g, joins, table, e, f, e);
-    put_in(&mut at, g, joins, table, e, f, f);
+    put_in(&mut at, g, joins, table, Kept { e, f, partner: e });
+    put_in(&mut at, g, joins, table, Kept { e, f, partner: f });
     Ok(at)
 }
 
-// Puts in edges that lie with the edge `with`, which is `e` or `f`, in no matching of the table.
-fn put_in(
-    at: &mut [u32],
-    g: &MultiGraph,
-    joins: &Joins,
-    table: &EdgeTable,
+// The edges `e` and `f`, which stay in the matching, and the one of the two with which the edges
+// that are put in lie in no matching of the table.
+#[derive(Clone, Copy, Drop)]
+struct Kept {
     e: u32,
     f: u32,
-    with: u32,
-) {
-    let mut free = free_vertices(at, g, table, e, f, with);
+    partner: u32,
+}
+
+// Puts in edges that lie with the partner in no matching of the table.
+fn put_in(at: &mut [u32], g: &MultiGraph, joins: &Joins, table: &EdgeTable, kept: Kept) {
+    let mut free = free_vertices(at, g, table, kept);
     for k in 0..g.order() {
         if free.contains(k + 1) {
-            free = put_in_at(at, g, joins, table, free, with, k + 1);
+            free = put_in_at(at, g, joins, table, free, kept.partner, k + 1);
         }
     }
 }
 
-// Puts in such an edge from `v` to a greater vertex, if an exchange allows it. Returns the vertices
+// Puts in such an edge from `v` to a higher-numbered vertex, if an exchange allows it. Returns the vertices
 // at which an edge may still be taken out.
 fn put_in_at(
     at: &mut [u32],
@@ -90,7 +91,7 @@ fn put_in_at(
     joins: &Joins,
     table: &EdgeTable,
     free: VSet,
-    with: u32,
+    partner: u32,
     v: u32,
 ) -> VSet
     requires { Within MOST_VERTICES v }
@@ -98,7 +99,7 @@ fn put_in_at(
     let near = neighbours(g.rows(), v).meet(free);
     for w in near.minus(VSet::full(v)).iter() {
         let k = joins.between(v, w);
-        if is_edge(g, k) && !has_both(table, with, k) {
+        if is_edge(g, k) && !has_both(table, partner, k) {
             let left = exchange(at, g, joins, free, k);
             if left != free {
                 return left;
@@ -127,11 +128,12 @@ pub(crate) fn is_edge(g: &MultiGraph, k: u32) -> bool
 }
 
 // The vertices at which an edge may be taken out.
-fn free_vertices(at: &[u32], g: &MultiGraph, table: &EdgeTable, e: u32, f: u32, with: u32) -> VSet {
+fn free_vertices(at: &[u32], g: &MultiGraph, table: &EdgeTable, kept: Kept) -> VSet {
     let mut free = VSet::empty();
     for k in 0..g.order() {
         let d = number_at(at, k as usize + 1);
-        if d != e && d != f && has_both(table, e, d) && has_both(table, with, d) {
+        let is_other = d != kept.e && d != kept.f;
+        if is_other && has_both(table, kept.e, d) && has_both(table, kept.partner, d) {
             free = free.with(k + 1);
         }
     }
